@@ -13,11 +13,8 @@ use Rattle.std.proofs.shelf.Lists.{length-push, length-append, at-drop-more, at
 use Rattle.std.proofs.shelf.Ways.{tells}
 use Rattle.stations.specs.declared.measures.Measures.{Measures}
 use Rattle.stations.specs.declared.station.Station.{Station}
+use Rattle.stations.proofs.Rows.{nowhere}
 use Rattle.printing.specs.Printed.{ender, numbered, stationNumbers, listing}
-
--- what a read past the end would give
-abbrev pub nowhere : Station
-nowhere = record { number = 0; at = record { m1 = 0; m2 = 0; m3 = 0; m4 = 0 } }
 
 pub one-digit : (n : ℕ) → n < 10 → 1 ≡ length (decimal n)
 one-digit n h = sym (ap length (decimal-digit n h))

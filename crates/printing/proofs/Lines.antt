@@ -9,9 +9,10 @@ use Rattle.std.specs.declared.result.Result.the-variants.{Ok}
 use Rattle.std.proofs.shelf.Lists.{append-nil, append-assoc, at-drop-all}
 use Rattle.stations.specs.declared.measures.Measures.{Measures}
 use Rattle.stations.specs.declared.station.Station.{Station}
+use Rattle.stations.proofs.Rows.{nowhere}
 use Rattle.printing.specs.Printed.{Wrote, Printed, ender, numbered, stationNumbers, listing}
 use Rattle.printing.proofs.Writing.{Writing, wrote-as, wrote-byte, wrote-then, writing-as, writing-more, writing-done, printed-all}
-use Rattle.printing.proofs.Lengths.{nowhere, numbered-at, length-numbered-at, listing-step, length-listing-step}
+use Rattle.printing.proofs.Lengths.{numbered-at, length-numbered-at, listing-step, length-listing-step}
 
 -- a number of the line and the byte behind it
 module _ (numbers : List ℕ) (i : ℕ) (below : i < length numbers) {from : ℕ} {was : List ℕ} {at : ℕ} {is : List ℕ} (w : Writing from was (numbered numbers) at is (numbered (drop i numbers))) where
