@@ -1,0 +1,4 @@
+pub mod Bounds
+pub mod Queries
+pub mod Opening
+pub mod Bands
