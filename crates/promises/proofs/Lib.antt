@@ -1,2 +1,5 @@
+pub mod Lists
 pub mod Keys
+pub mod Books
 pub mod Bands
+pub mod Theory

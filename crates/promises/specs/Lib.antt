@@ -2,3 +2,4 @@ pub mod Bounds
 pub mod Queries
 pub mod Opening
 pub mod Bands
+pub mod Foundations
