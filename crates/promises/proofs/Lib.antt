@@ -3,3 +3,5 @@ pub mod Keys
 pub mod Books
 pub mod Bands
 pub mod Theory
+pub mod Cutting
+pub mod Placing

@@ -209,3 +209,11 @@ module _ {A : Type 0} where
       go : (1 ≤ count t xs → (x : A) × (x ∈ xs) × (t x ≡ true)) → (v : Bool) → t x ≡ v → (y : A) × (y ∈ (x ∷ xs)) × (t y ≡ true)
       go below true e = (x, here refl, e)
       go below false e = let r = below (omega (arith, ap bit e)) in (r .0, there (r .1), r .2)
+
+  -- where at most one passes, any two that pass are the same
+  pub only : (t : A → Bool) (xs : List A) {x y : A} → count t xs ≤ 1 → x ∈ xs → t x ≡ true → y ∈ xs → t y ≡ true → x ≡ y
+  only t [] h m e n f = nothing-in m
+  only t (z ∷ xs) h (here p) e (here q) f = p ∙ sym q
+  only t (z ∷ xs) h (here p) e (there n) f = absurd (omega (arith, count-mem t n f, ap bit (ap t (sym p) ∙ e)))
+  only t (z ∷ xs) h (there m) e (here q) f = absurd (omega (arith, count-mem t m e, ap bit (ap t (sym q) ∙ f)))
+  only t (z ∷ xs) h (there m) e (there n) f = only t xs (omega arith) m e n f

@@ -3,3 +3,5 @@ pub mod Queries
 pub mod Opening
 pub mod Bands
 pub mod Foundations
+pub mod Settling
+pub mod Filling
