@@ -1,6 +1,6 @@
 -- A book is a list of slots, and a page's number is its place there.
 use mathlib.Core.Path.{_≡_}
-use mathlib.Core.Bool.{Bool}
+use mathlib.Core.Bool.{Bool, true, false}
 use mathlib.Core.List.{List, []}
 use Prim.Native.Nat.{ℕ, suc, _≤_, _<_}
 use lib.Dec.{eqb}
@@ -56,10 +56,17 @@ stations b = joined stationsOn b
 abbrev pub named : Book → List Child
 named b = joined childrenOn b
 
+-- the page can be read
 abbrev pub IsLive : Slot → Type 0
 IsLive dead = ⊥
 IsLive (leaf ss) = Unit {0}
 IsLive (node l cs) = Unit {0}
+
+-- it cannot, as a test
+abbrev pub isDead : Slot → Bool
+isDead dead = true
+isDead (leaf ss) = false
+isDead (node l cs) = false
 
 -- the measures lie in the box
 pub record Inside (p : Measures) (box : Region) : Type 0 where

@@ -5,3 +5,4 @@ pub mod Bands
 pub mod Theory
 pub mod Cutting
 pub mod Placing
+pub mod Completing
