@@ -6,3 +6,4 @@ pub mod Theory
 pub mod Cutting
 pub mod Placing
 pub mod Completing
+pub mod Filling

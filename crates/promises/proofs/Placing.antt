@@ -64,7 +64,7 @@ on-slot dead m = nothing-in m
 on-slot (leaf ss) m = nothing-in m
 on-slot (node l cs) m = let r = of-map (home l) cs m in (subst (λ c. c ∈ cs) (ap (λ h. h .child) (sym (r .2))) (r .1), ap (λ h. suc (h .level)) (sym (r .2)))
 
-at-home : (s : Slot) {c : Child} → c ∈ childrenOn s → (l : ℕ) × (level s ≡ suc l) × (home l c ∈ homesOn s)
+pub at-home : (s : Slot) {c : Child} → c ∈ childrenOn s → (l : ℕ) × (level s ≡ suc l) × (home l c ∈ homesOn s)
 at-home dead m = nothing-in m
 at-home (leaf ss) m = nothing-in m
 at-home (node l cs) m = (l, refl, in-map (home l) m)
