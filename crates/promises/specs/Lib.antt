@@ -5,3 +5,6 @@ pub mod Bands
 pub mod Foundations
 pub mod Settling
 pub mod Filling
+pub mod Waiting
+pub mod Searching
+pub mod Promises
