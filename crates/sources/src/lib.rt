@@ -24,7 +24,7 @@ pub trait PageSource {
 
     ghost laws: { SourceLaws Self limit book pages meter };
 
-    fn most_pages() -> usize
+    fn page_limit() -> usize
         ensures { λ r. ⌜ r ≡ limit ⌝ };
 
     // Reads a page. The meter moves also when the read is refused, and nothing else of the meaning changes.
