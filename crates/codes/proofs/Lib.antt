@@ -1,1 +1,2 @@
 mod Spreads
+pub mod Laws

@@ -31,6 +31,10 @@ pub record Ordinary (p : Measures) : Type 0 where
   pub in3 : p .m3 < 2 ^ 16
   pub in4 : p .m4 < 2 ^ 16
 
+-- no other ordinary measures have the code
+abbrev pub Alone : Measures → ℕ → Type 0
+Alone p code = (q : Measures) → Ordinary q → codeOf q ≡ code → q ≡ p
+
 abbrev measures : ℕ → ℕ → ℕ → ℕ → Measures
 measures a b c d = record { m1 = a; m2 = b; m3 = c; m4 = d }
 

@@ -1,7 +1,7 @@
 // The 64-bit code of four measures, by a table that spreads a byte.
 ghost use mathlib.Core.Path.{_≡_};
-ghost use Prim.Native.Nat.{_*_, _^_, _<_};
-ghost use Rattle.codes.specs.Codes.{spread, codeOf};
+ghost use Prim.Native.Nat.{_-_, _*_, _^_, _<_};
+ghost use Rattle.codes.specs.Codes.{spread, codeOf, Interleaved, Alone, Worked};
 use stations::Measures;
 
 mod table;
@@ -23,8 +23,19 @@ fn spread_measure(measure: u16) -> u64
     low as u64 + ((high as u64) << 32)
 }
 
+// The bits of the four measures in turn, from the highest of the first to the lowest of the fourth.
 pub fn code(at: Measures) -> u64
-    ensures { λ r. ⌜ r ≡ codeOf «at» ⌝ }
+    ensures value { λ r. ⌜ r ≡ codeOf «at» ⌝ }
+    ensures bits { λ r. ⌜ Interleaved «at» r ⌝ }
+    ensures apart { λ r. ⌜ Alone «at» r ⌝ }
 {
     (spread_measure(at.m1) << 3) + (spread_measure(at.m2) << 2) + (spread_measure(at.m3) << 1) + spread_measure(at.m4)
+}
+
+// The code of the worst measures, every bit set.
+pub fn last_code() -> u64
+    ensures value { λ r. ⌜ r ≡ 2 ^ 64 - 1 ⌝ }
+    ensures worked { λ _. ⌜ Worked ⌝ }
+{
+    code(Measures { m1: 65535, m2: 65535, m3: 65535, m4: 65535 })
 }
