@@ -1,4 +1,4 @@
--- The code of four measures: their bits in turn, so that stations near each other in every measure have near codes.
+-- The code of four measures: their bits in turn, from the highest of the first measure to the lowest of the fourth.
 use mathlib.Core.Path.{_≡_}
 use Prim.Native.Nat.{ℕ, zero, suc, _+_, _*_, _-_, _/_, _%_, _^_, _<_}
 use Rattle.stations.specs.declared.measures.Measures.{Measures}

@@ -5,6 +5,7 @@ ghost use Rattle.codes.specs.Codes.{spread, codeOf, Interleaved, Alone, Worked
 use stations::Measures;
 
 mod table;
+
 use table::SPREAD;
 
 fn spread_byte(byte: u8) -> u32
@@ -23,13 +24,17 @@ fn spread_measure(measure: u16) -> u64
     low as u64 + ((high as u64) << 32)
 }
 
-// The bits of the four measures in turn, from the highest of the first to the lowest of the fourth.
+// The bits of the four measures in turn, so that stations that are near in all four measures tend to have near codes.
 pub fn code(at: Measures) -> u64
     ensures value { λ r. ⌜ r ≡ codeOf «at» ⌝ }
     ensures bits { λ r. ⌜ Interleaved «at» r ⌝ }
     ensures apart { λ r. ⌜ Alone «at» r ⌝ }
 {
-    (spread_measure(at.m1) << 3) + (spread_measure(at.m2) << 2) + (spread_measure(at.m3) << 1) + spread_measure(at.m4)
+    let Measures { m1, m2, m3, m4 } = at;
+    (spread_measure(m1) << 3)
+        + (spread_measure(m2) << 2)
+        + (spread_measure(m3) << 1)
+        + spread_measure(m4)
 }
 
 // The code of the worst measures, every bit set.
@@ -37,5 +42,10 @@ pub fn last_code() -> u64
     ensures value { λ r. ⌜ r ≡ 2 ^ 64 - 1 ⌝ }
     ensures worked { λ _. ⌜ Worked ⌝ }
 {
-    code(Measures { m1: 65535, m2: 65535, m3: 65535, m4: 65535 })
+    code(Measures {
+        m1: 65535,
+        m2: 65535,
+        m3: 65535,
+        m4: 65535,
+    })
 }
