@@ -5,7 +5,8 @@ use native.Mathlib.Nat.{pow-suc}
 use native.Mathlib.Omega.{arith}
 use Rattle.std.proofs.shelf.Bits.{shr-shr, div-mul-add, mod-mul-add}
 use Rattle.stations.specs.declared.measures.Measures.{Measures}
-use Rattle.codes.specs.Codes.{spread, bitAt, codeOf, Interleaved, Ordinary, Alone}
+use Rattle.stations.specs.Beating.{Ordinary}
+use Rattle.codes.specs.Codes.{spread, bitAt, codeOf, Interleaved, Alone}
 use Rattle.codes.proofs.Spreads.{half-pow, spread-small}
 
 -- the code of four numbers of n bits

@@ -2,6 +2,7 @@
 use mathlib.Core.Path.{_≡_}
 use Prim.Native.Nat.{ℕ, zero, suc, _+_, _*_, _-_, _/_, _%_, _^_, _<_}
 use Rattle.stations.specs.declared.measures.Measures.{Measures}
+use Rattle.stations.specs.Beating.{Ordinary}
 
 -- the number whose bit 4j is bit j of x, for the first n bits
 unfoldable pub spread : ℕ → ℕ → ℕ
@@ -23,13 +24,6 @@ pub record Interleaved (p : Measures) (code : ℕ) : Type 0 where
   pub from3 : (j : ℕ) → j < 16 → bitAt (4 * j + 1) code ≡ bitAt j (p .m3)
   pub from4 : (j : ℕ) → j < 16 → bitAt (4 * j) code ≡ bitAt j (p .m4)
   pub short : code < 2 ^ 64
-
--- every measure is an ordinary one: a number of 16 bits
-pub record Ordinary (p : Measures) : Type 0 where
-  pub in1 : p .m1 < 2 ^ 16
-  pub in2 : p .m2 < 2 ^ 16
-  pub in3 : p .m3 < 2 ^ 16
-  pub in4 : p .m4 < 2 ^ 16
 
 -- no other ordinary measures have the code
 abbrev pub Alone : Measures → ℕ → Type 0
