@@ -14,13 +14,10 @@ use Rattle.std.proofs.shelf.Lists.{take-append-drop, drop-drop, at-drop-more, a
 use Rattle.std.proofs.shelf.Edits.{between-more, between-none}
 use Rattle.std.proofs.shelf.Elements.{all-weaker, all-append}
 use Rattle.std.proofs.shelf.Parts.{between-to-end}
-use Rattle.std.proofs.shelf.Tests.{eq-eqb, cases-bool, or-cases, or-parts}
+use Rattle.std.proofs.shelf.Tests.{eq-eqb, or-left, or-right, or-parts}
 use Rattle.logs.specs.Pieces.{onto, pieces, join, comma, lineEnd}
 use Rattle.logs.specs.Tokens.{parts, front}
-
--- the text holds no separator
-abbrev pub Free : ℕ → List ℕ → Type 0
-Free sep bs = All (λ b. eqb b sep ≡ false) bs
+use Rattle.logs.specs.Lines.{Free}
 
 -- at a separator the first part ends
 pub cut : (sep : ℕ) (p rest : List ℕ) → Free sep p → pieces sep (p ++ sep ∷ rest) ≡ p ∷ pieces sep rest
@@ -129,3 +126,24 @@ length-pieces sep (b ∷ xs) ys = go (eqb b sep) refl (length-pieces sep xs ys)
     go : (t : Bool) → eqb b sep ≡ t → suc (length (pieces sep (xs ++ ys))) ≡ length (pieces sep xs) + length (pieces sep ys) → suc (length (pieces sep (b ∷ (xs ++ ys)))) ≡ length (pieces sep (b ∷ xs)) + length (pieces sep ys)
     go true e h = rw e (omega arith)
     go false e h = rw (e, length-onto b sep (xs ++ ys), length-onto b sep xs) h
+
+-- no field begins at a comma, and none at a line end
+pub front-comma : (text : List ℕ) (i : ℕ) → i < length text → getD text i 0 ≡ comma → front (drop i text) ≡ []
+front-comma text i lt e = front-here text i lt (or-left _ _ (eq-eqb _ _ e))
+
+pub front-end : (text : List ℕ) (i : ℕ) → i < length text → getD text i 0 ≡ lineEnd → front (drop i text) ≡ []
+front-end text i lt e = front-here text i lt (or-right _ _ (eq-eqb _ _ e))
+
+-- the fields after the one that ends here: the comma is passed over
+abbrev pub next : List ℕ → List (List ℕ)
+next [] = []
+next (b ∷ bs) = pieces comma bs
+
+-- in a line the first field is its front
+pub front-piece : (bs : List ℕ) → Free lineEnd bs → pieces comma bs ≡ front bs ∷ next (drop (length (front bs)) bs)
+front-piece [] f = refl
+front-piece (b ∷ bs) f = go (eqb b comma) refl (front-piece bs (f .1))
+  where
+    go : (t : Bool) → eqb b comma ≡ t → pieces comma bs ≡ front bs ∷ next (drop (length (front bs)) bs) → pieces comma (b ∷ bs) ≡ front (b ∷ bs) ∷ next (drop (length (front (b ∷ bs))) (b ∷ bs))
+    go true e h = rw e
+    go false e h = rw (e, f .0) (ap (onto b) h)

@@ -1,3 +1,4 @@
 pub mod Spelling
 pub mod Cuts
 pub mod Scans
+pub mod Fields

@@ -11,8 +11,8 @@ use Rattle.std.proofs.shelf.Edits.{between-none}
 use Rattle.std.proofs.shelf.Parts.{between-to-end}
 use Rattle.logs.specs.Pieces.{comma, lineEnd, fieldsOf, linesOf}
 use Rattle.logs.specs.Tokens.{front}
-use Rattle.logs.specs.Lines.{Found, Unended}
-use Rattle.logs.proofs.Cuts.{Free, cut, whole, between-add, between-drop, length-pieces, front-prefix, front-no-comma, front-no-end, front-short}
+use Rattle.logs.specs.Lines.{Free, Found, Unended}
+use Rattle.logs.proofs.Cuts.{cut, whole, between-add, between-drop, length-pieces, front-prefix, front-no-comma, front-no-end, front-short}
 
 -- from `start` to `at` there is no line end, and that many commas
 pub record Scan (text : List ℕ) (start at commas : ℕ) : Type 0 where
@@ -66,6 +66,7 @@ scan-end text start at commas s lt is =
     record {
       starts = s .starts; ends = lt; bytes-are = refl;
       lines = ap linesOf all ∙ cut lineEnd (between start at text) (drop (at + 1) text) (s .free);
+      free = s .free;
       count = sym (s .counted) }
 
 -- the end of the text
