@@ -1,7 +1,7 @@
 -- When a log is refused: the first refusal, in checking order.
 use mathlib.Core.Bool.{Bool, cond, not}
 use mathlib.Core.List.{List, [], _∷_}
-use Prim.Native.Nat.{ℕ, suc}
+use Prim.Native.Nat.{ℕ, suc, _+_}
 use lib.Dec.{eqb, ltb}
 use lib.ListN.{length, getD}
 use Rattle.std.specs.declared.option.Option.{Option}
@@ -62,7 +62,7 @@ linesFault (p ∷ q ∷ ps) = orElse (lineFault 1 questionLine p) (stationsFault
 
 -- four numbers from place i on
 abbrev pub measuresAt : ℕ → List ℕ → Measures
-measuresAt i ns = record { m1 = getD ns i 0; m2 = getD ns (suc i) 0; m3 = getD ns (suc (suc i)) 0; m4 = getD ns (suc (suc (suc i))) 0 }
+measuresAt i ns = record { m1 = getD ns i 0; m2 = getD ns (i + 1) 0; m3 = getD ns (i + 2) 0; m4 = getD ns (i + 3) 0 }
 
 -- the question that the numbers of its line give
 abbrev pub questionOf : List ℕ → Question

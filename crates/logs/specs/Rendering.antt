@@ -2,8 +2,8 @@
 use mathlib.Core.Path.{_≡_}
 use mathlib.Core.Bool.{true}
 use mathlib.Core.List.{List, [], _∷_, _++_}
-use Prim.Native.Nat.{ℕ, _≤_}
-use lib.ListN.{length}
+use Prim.Native.Nat.{ℕ, _+_, _≤_}
+use lib.ListN.{length, getD}
 use Rattle.std.specs.shelf.Lists.{All, joined}
 use Rattle.std.specs.declared.option.Option.{Option}
 use Rattle.std.specs.declared.option.Option.the-variants.{None}
@@ -30,6 +30,10 @@ weightsOf (Largest s) = s .weights
 
 abbrev pub weightNumbers : Weights → List ℕ
 weightNumbers w = w .w1 ∷ w .w2 ∷ w .w3 ∷ w .w4 ∷ []
+
+-- four numbers from place i on
+abbrev pub weightsAt : ℕ → List ℕ → List ℕ
+weightsAt i ns = getD ns i 0 ∷ getD ns (i + 1) 0 ∷ getD ns (i + 2) 0 ∷ getD ns (i + 3) 0 ∷ []
 
 abbrev pub measureNumbers : Measures → List ℕ
 measureNumbers p = p .m1 ∷ p .m2 ∷ p .m3 ∷ p .m4 ∷ []

@@ -14,6 +14,33 @@ pub enum FieldKind {
     Weight,
 }
 
+// The ranking's letter, k, the region's lows and highs, the weights.
+pub const QUESTION_LINE: [FieldKind; 14] = [
+    FieldKind::Letter,
+    FieldKind::Measure,
+    FieldKind::Measure,
+    FieldKind::Measure,
+    FieldKind::Measure,
+    FieldKind::Measure,
+    FieldKind::Measure,
+    FieldKind::Measure,
+    FieldKind::Measure,
+    FieldKind::Measure,
+    FieldKind::Weight,
+    FieldKind::Weight,
+    FieldKind::Weight,
+    FieldKind::Weight,
+];
+
+// A station's number and its measures.
+pub const STATION_LINE: [FieldKind; 5] = [
+    FieldKind::Number,
+    FieldKind::Measure,
+    FieldKind::Measure,
+    FieldKind::Measure,
+    FieldKind::Measure,
+];
+
 // The most digits of a number.
 const MOST_DIGITS: usize = 10;
 
