@@ -5,3 +5,4 @@ pub mod Fields
 pub mod Ranges
 pub mod Verdicts
 pub mod Heads
+pub mod Rows

@@ -152,3 +152,23 @@ fn read_stations(text: &[u8], start: usize, row: &mut [Station]) -> Result<usize
     }
     Ok(count)
 }
+
+// Reads a log into the row. A text that is refused leaves the row as it was.
+pub fn read_log(text: &[u8], row: &mut [Station]) -> Result<Log, Fault>
+    ensures { λ r. ⌜ Cases r (Accepted (now (text .entry)) (now (row .entry)) (now (row .exit))) (Refused (now (text .entry)) (now (row .entry)) (now (row .exit))) ⌝ }
+{
+    if text.len() > MOST_BYTES {
+        return Err(Fault { code: Code::TextTooLong, first: 0, second: 0 });
+    }
+    let heading = read_question(text)?;
+    let blank = Station { number: 0, at: Measures { m1: 0, m2: 0, m3: 0, m4: 0 } };
+    let mut read = [blank; MOST_STATIONS];
+    let count = read_stations(text, heading.next, &mut read)?;
+    check_row(&read[0..count])?;
+    heading.question.check()?;
+    if count > row.len() {
+        return Err(Fault { code: Code::ShortBuffer, first: 0, second: 0 });
+    }
+    row[0..count].copy_from_slice(&read[0..count]);
+    Ok(Log { ranking: heading.ranking, question: heading.question, count })
+}
