@@ -6,3 +6,7 @@ pub mod Ranges
 pub mod Verdicts
 pub mod Heads
 pub mod Rows
+pub mod Joins
+pub mod Writing
+pub mod Texts
+pub mod Readings
