@@ -75,7 +75,7 @@ lined text e = go (linesOf text) refl e
             ∙ ap₂ (λ xs ss. xs ++ joined stationText ss) (front ∙ ap (λ x. lineText questionLine (numbersOf questionLine x)) (sym first)) (sym row) }
 
 -- what the reader has in hand once both kinds of line are read
-module _ (text : List ℕ) (r : Ranker) (q : Question) (next : ℕ) (local : List Station) (count : ℕ) (short : length text ≤ mostBytes) (head : Headed text r q next) (filled : Filled text next local count) (long : length local ≡ mostStations) where
+module _ (text : List ℕ) (r : Ranker) (q : Question) (next : ℕ) (local : List Station) (count : ℕ) (short : length text ≤ mostBytes) (head : Headed text r q next) (filled : Filled text next local count) where
   pub lines-none : linesFault (linesOf text) ≡ None
   lines-none = head .decides ∙ filled .decides
 
@@ -86,7 +86,7 @@ module _ (text : List ℕ) (r : Ranker) (q : Question) (next : ℕ) (local : Lis
   question-is = ap questionOf (sym (head .numbers))
 
   pub row-long : length (take count local) ≡ count
-  row-long = let c : count ≤ mostStations = filled .few in length-take-le count local (omega arith)
+  row-long = let c : count ≤ mostStations = filled .few in length-take-le count local (omega (arith, filled .places))
 
   -- of the checks of a row only that of repeats is left
   pub row-fault : rowFault (take count local) ≡ repeatFault [] 0 (take count local)

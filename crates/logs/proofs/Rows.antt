@@ -52,6 +52,7 @@ module _ (text : List ℕ) (start : ℕ) (row : List Station) (at count : ℕ) (
       let e = drop-all at text past in
       record {
         few = g .few;
+        places = g .places;
         decides = sym (g .decides) ∙ ap (λ bs. stationsFault (count + 2) (linesOf bs)) e;
         stations = sym (append-nil _) ∙ ap (λ bs. take count row ++ stationsIn (linesOf bs)) (sym e) ∙ g .stations }
 

@@ -25,6 +25,7 @@ pub record Headed (text : List ℕ) (ranking : Ranker) (question : Question) (ne
 -- the stations' lines are accepted, and the row begins with their stations
 pub record Filled (text : List ℕ) (start : ℕ) (row : List Station) (count : ℕ) : Type 0 where
   pub few : count ≤ mostStations
+  pub places : length row ≡ mostStations
   pub decides : stationsFault 2 (linesOf (drop start text)) ≡ None
   pub stations : take count row ≡ stationsIn (linesOf (drop start text))
 

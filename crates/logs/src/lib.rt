@@ -7,3 +7,5 @@ pub use token::Token;
 pub use token::next_token;
 mod log;
 pub use log::Log;
+pub use log::MOST_BYTES;
+pub use log::read_log;
