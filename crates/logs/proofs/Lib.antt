@@ -10,3 +10,4 @@ pub mod Joins
 pub mod Writing
 pub mod Texts
 pub mod Readings
+pub mod Laws

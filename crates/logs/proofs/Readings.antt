@@ -26,7 +26,7 @@ use Rattle.logs.specs.Rendering.{rendering, lineText, questionNumbers, station
 use Rattle.logs.specs.Reading.{Headed, Filled}
 use Rattle.logs.proofs.Verdicts.{neither, passed, after-none, at-some, Fine, fine-from}
 use Rattle.logs.proofs.Joins.{join-pieces}
-use Rattle.logs.proofs.Texts.{line-written, stationText, stations-text, stations-admitted, zero-none}
+use Rattle.logs.proofs.Texts.{line-written, stationText, stations-text, stations-admitted, stations-few, zero-none}
 
 -- what is checked after the lines
 abbrev pub afterLines : ℕ → List ℕ → Option Fault
@@ -48,6 +48,7 @@ pub record Lined (text : List ℕ) : Type 0 where
   pub admitted : pass admits questionLine (numbersOf questionLine (firstOf (linesOf text))) ≡ true
   pub numbers : Fine questionLine (firstOf (linesOf text))
   pub stations : All (λ s. pass admits stationLine (stationNumbers s) ≡ true) (rowIn text)
+  pub few : length (rowIn text) ≤ mostStations
   pub shown : text ≡ lineText questionLine (numbersOf questionLine (firstOf (linesOf text))) ++ joined stationText (rowIn text)
 
 pub lined : (text : List ℕ) → linesFault (linesOf text) ≡ None → Lined text
@@ -69,6 +70,7 @@ lined text e = go (linesOf text) refl e
           admitted = ap (λ x. pass admits questionLine (numbersOf questionLine x)) first ∙ f .admitted;
           numbers = subst (Fine questionLine) (sym first) f;
           stations = subst (All (λ s. pass admits stationLine (stationNumbers s) ≡ true)) (sym row) (stations-admitted 2 (q ∷ ps) (a .1));
+          few = omega (arith, stations-few 2 (q ∷ ps) (omega arith) (a .1), ap length row);
           shown =
             whole ∙ ap (λ xs. p ++ lineEnd ∷ xs) (stations-text 2 (q ∷ ps) (a .1))
             ∙ sym (append-assoc p (lineEnd ∷ []) (joined stationText (stationsIn (q ∷ ps))))

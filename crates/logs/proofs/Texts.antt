@@ -9,7 +9,7 @@ use lib.ListN.{length}
 use Rattle.std.specs.shelf.Lists.{All, joined}
 use Rattle.std.specs.declared.option.Option.{Option}
 use Rattle.std.specs.declared.option.Option.the-variants.{Some, None}
-use Rattle.std.proofs.shelf.Tests.{and-parts, ltb-true, le-ltb, ne-eqb}
+use Rattle.std.proofs.shelf.Tests.{and-parts, ltb-true, ltb-false, le-ltb, ne-eqb}
 use Rattle.stations.specs.declared.fault.Fault.{Fault}
 use Rattle.stations.specs.declared.fault.Code.the-variants.{BadField, TooManyStations, OutOfRange}
 use Rattle.stations.specs.declared.station.Station.{Station}
@@ -26,7 +26,7 @@ use Rattle.logs.proofs.Cuts.{cut, some-piece}
 use Rattle.logs.proofs.Joins.{join-pieces, pieces-join, join-free}
 use Rattle.logs.proofs.Writing.{writes-read, reads-written, spells-written, commas-written, ends-written}
 use Rattle.logs.proofs.Heads.{station-numbers}
-use Rattle.logs.proofs.Verdicts.{neither, after-none, Fine, fine-from, fine-none, length-paired}
+use Rattle.logs.proofs.Verdicts.{neither, passed, after-none, Fine, fine-from, fine-none, length-paired}
 
 -- an accepted line is what is written of its numbers
 pub line-written : (ks : List FieldKind) (bytes : List ℕ) → Fine ks bytes → join comma (paired writing ks (numbersOf ks bytes)) ≡ bytes
@@ -67,6 +67,17 @@ stations-admitted line (p ∷ q ∷ ps) e =
     let b = neither (lineFault line stationLine p) _ (a .1) in
     let f = fine-from line stationLine p (b .0) in
     (ap (pass admits stationLine) (fine-station p f) ∙ f .admitted, stations-admitted (suc line) (q ∷ ps) (b .1))
+
+-- there are no more of them than a row may have
+pub stations-few : (line : ℕ) (ls : List (List ℕ)) → line ≤ suc (suc mostStations) → stationsFault line ls ≡ None → line + length (stationsIn ls) ≤ suc (suc mostStations)
+stations-few line [] le e = omega arith
+stations-few line (p ∷ []) le e = omega arith
+stations-few line (p ∷ q ∷ ps) le e =
+    let a = neither (crowdFault line) _ e in
+    let b = neither (lineFault line stationLine p) _ (a .1) in
+    let room : line ≤ suc mostStations = ltb-false (suc mostStations) line (passed _ _ (a .0)) in
+    let later = stations-few (suc line) (q ∷ ps) (omega arith) (b .1) in
+    omega (arith, later)
 
 -- so no station has the number 0
 pub zero-none : (i : ℕ) (row : List Station) → All (λ s. pass admits stationLine (stationNumbers s) ≡ true) row → zeroFault i row ≡ None
