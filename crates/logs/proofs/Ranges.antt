@@ -10,7 +10,7 @@ use Rattle.std.specs.declared.option.Option.the-variants.{Some, None}
 use Rattle.std.proofs.shelf.Tests.{and-parts, and-from, leb-true}
 use Rattle.stations.specs.declared.fault.Code.{Code}
 use Rattle.stations.specs.Faults.{fault, refuseIf, orElse}
-use Rattle.rankings.specs.Scores.{Ordinary}
+use Rattle.stations.specs.Beating.{Ordinary}
 use Rattle.logs.specs.Fields.{admits, pass, questionLine}
 use Rattle.logs.specs.Checks.{fieldFault, measuresAt}
 use Rattle.logs.specs.declared.field.FieldKind.{FieldKind}

@@ -7,7 +7,7 @@ ghost use lib.ListN.{length, drop, getD};
 ghost use Rattle.std.specs.Results.{Cases};
 ghost use Rattle.std.specs.declared.option.Option.the-variants.{Some, None};
 ghost use Rattle.stations.specs.Rows.{mostStations};
-ghost use Rattle.rankings.specs.Scores.{Ordinary};
+ghost use Rattle.stations.specs.Beating.{Ordinary};
 ghost use Rattle.logs.specs.Pieces.{lineEnd, linesOf, fieldsOf};
 ghost use Rattle.logs.specs.Lines.{Free};
 ghost use Rattle.logs.specs.Fields.{questionLine, stationLine, admits, pass};

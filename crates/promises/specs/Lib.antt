@@ -1,0 +1,10 @@
+pub mod Bounds
+pub mod Queries
+pub mod Opening
+pub mod Bands
+pub mod Foundations
+pub mod Settling
+pub mod Filling
+pub mod Waiting
+pub mod Searching
+pub mod Promises

@@ -1,0 +1,51 @@
+// What the search promises, as theorems over the model of a book. Each stands on the contract of a call that does nothing else.
+ghost use Rattle.promises.specs.Bands.{BandsKeepLaws, BandsAnswer};
+ghost use Rattle.promises.specs.Foundations.{Counting, Listed, Upward, Standing, Onward, SameAnswers};
+
+pub fn bands_keep_laws() -> u8
+    ensures { λ _. ⌜ BandsKeepLaws ⌝ }
+{
+    0
+}
+
+pub fn bands_answer() -> u8
+    ensures { λ _. ⌜ BandsAnswer ⌝ }
+{
+    0
+}
+
+pub fn answer_counts_like_field() -> u8
+    ensures { λ _. ⌜ Counting ⌝ }
+{
+    0
+}
+
+pub fn listed_tests_like_field() -> u8
+    ensures { λ _. ⌜ Listed ⌝ }
+{
+    0
+}
+
+pub fn opened_pages_rise() -> u8
+    ensures { λ _. ⌜ Upward ⌝ }
+{
+    0
+}
+
+pub fn answer_stands_on_opened() -> u8
+    ensures { λ _. ⌜ Standing ⌝ }
+{
+    0
+}
+
+pub fn opened_pages_lead_on() -> u8
+    ensures { λ _. ⌜ Onward ⌝ }
+{
+    0
+}
+
+pub fn same_pages_same_answers() -> u8
+    ensures { λ _. ⌜ SameAnswers ⌝ }
+{
+    0
+}
