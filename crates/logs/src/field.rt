@@ -4,6 +4,7 @@ ghost use mathlib.Core.Bool.{cond};
 ghost use Rattle.std.specs.declared.option.Option.the-variants.{Some, None};
 ghost use Rattle.logs.specs.Numerals.{spelled, value};
 ghost use Rattle.logs.specs.Fields.{spells, reading, admits, isLetter};
+use rankings::MOST_WEIGHT;
 
 // k and the bounds of a region are read as measures are.
 #[derive(Clone, Copy)]
@@ -95,9 +96,9 @@ impl FieldKind {
     {
         match self {
             FieldKind::Letter => n == SUM_LETTER as u64 || n == LARGEST_LETTER as u64,
-            FieldKind::Number => 0 < n && n <= 4_294_967_295,
-            FieldKind::Measure => n <= 65_535,
-            FieldKind::Weight => n <= 1_000,
+            FieldKind::Number => 0 < n && n <= u32::MAX as u64,
+            FieldKind::Measure => n <= u16::MAX as u64,
+            FieldKind::Weight => n <= MOST_WEIGHT as u64,
         }
     }
 }
