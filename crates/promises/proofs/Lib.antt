@@ -7,3 +7,4 @@ pub mod Cutting
 pub mod Placing
 pub mod Completing
 pub mod Filling
+pub mod Frugal

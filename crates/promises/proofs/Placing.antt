@@ -18,7 +18,7 @@ use Rattle.stations.specs.Counting.{bit, count}
 use Rattle.books.specs.declared.Child.{Child}
 use Rattle.books.specs.Lists.{_∈_, here, there}
 use Rattle.books.specs.Books.{Book, Slot, dead, leaf, node, slot, level, size, childrenOn, stationsOn, named, stations, names, numbered, IsLive, Inside, Nested, Fits, Filled, Lawful, worst}
-use Rattle.promises.proofs.Lists.{all-at, all-from, in-map, nothing-in, only, count-append, count-mem, count-none}
+use Rattle.promises.proofs.Lists.{all-at, all-from, in-map, of-map, nothing-in, only, count-append, count-mem, count-none}
 use Rattle.promises.proofs.Books.{of-joined, in-joined}
 
 -- a place where a page is named, with the level that the page must have
@@ -40,11 +40,6 @@ homes b = joined homesOn b
 -- the home is one of the page p
 abbrev pub houses : ℕ → Home → Bool
 houses p h = names p (h .child)
-
-of-map : {A B : Type 0} (f : A → B) (xs : List A) {y : B} → y ∈ map f xs → (x : A) × (x ∈ xs) × (y ≡ f x)
-of-map f [] m = nothing-in m
-of-map f (x ∷ xs) (here e) = (x, here refl, e)
-of-map f (x ∷ xs) (there m) = let r = of-map f xs m in (r .0, there (r .1), r .2)
 
 count-houses : (p : ℕ) (l : ℕ) (cs : List Child) → count (houses p) (map (home l) cs) ≡ count (names p) cs
 count-houses p l [] = refl

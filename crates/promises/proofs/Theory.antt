@@ -168,9 +168,12 @@ module _ (q : Query) (laws : Laws q) where
       let k = of-kept (λ s. few q xs (s .at)) xs c in
       in-kept _ (in-sort _ (in-kept (λ s. few q ys (s .at)) (f s c (w .1)) (carry u ys xs apart g (s .at) (over-within u (s .at) Station (s .number) (w .1)) (k .1)))) (w .1)
 
+  pub rising-sorted : (xs : List stated.Station) → Numbered xs → Pairwise (λ s t. before (stationKey q s) (stationKey q t) ≡ true) (sorted q (chosen q xs))
+  rising-sorted xs apart =
+      rising-sort _ (λ r s t. before-trans (stationKey q r) (stationKey q s) (stationKey q t)) (chosen q xs) (pairwise-weaker _ _ (λ s t. before-either (stationKey q s) (stationKey q t)) (chosen q xs) (pairwise-kept _ _ xs apart))
+
   pub rising : (u : Bound) (xs : List stated.Station) → Numbered xs → Pairwise (λ s t. before (stationKey q s) (stationKey q t) ≡ true) (upToBound q u (sorted q (chosen q xs)))
-  rising u xs apart =
-      pairwise-kept _ _ (sorted q (chosen q xs)) (rising-sort _ (λ r s t. before-trans (stationKey q r) (stationKey q s) (stationKey q t)) (chosen q xs) (pairwise-weaker _ _ (λ s t. before-either (stationKey q s) (stationKey q t)) (chosen q xs) (pairwise-kept _ _ xs apart)))
+  rising u xs apart = pairwise-kept _ _ (sorted q (chosen q xs)) (rising-sorted xs apart)
 
 pub same-answers : SameAnswers
 same-answers q laws u b b′ lawful lawful′ agree =
