@@ -8,3 +8,4 @@ pub mod Placing
 pub mod Completing
 pub mod Filling
 pub mod Frugal
+pub mod Rows
