@@ -59,3 +59,21 @@ within-before all j k h w = refl
 within-before (below κ) j k h w = before-trans j k κ h w
 within-before (upTo κ) j k h w =
     ⊎-elim (λ e. absurd (both-ways (before κ k) (not-true (before κ k) w) (before-trans κ j k e h))) (λ e. not-from-false (before κ j) e) (cases-bool (before κ j))
+
+lex-between : (a b c : ℕ) (s t u : Bool) → (u ≡ true → (s ≡ true) ⊎ (t ≡ true)) → lex a c u ≡ true → (lex a b s ≡ true) ⊎ (lex b c t ≡ true)
+lex-between a b c s t u f h = grind (arith, tells)
+
+ltb-between : (a b c : ℕ) → ltb a c ≡ true → (ltb a b ≡ true) ⊎ (ltb b c ≡ true)
+ltb-between a b c h = grind (arith, tells)
+
+-- where one key comes before another, a third comes after the first or before the second
+pub before-between : (i j k : Key) → before i k ≡ true → (before i j ≡ true) ⊎ (before j k ≡ true)
+before-between i j k =
+    lex-between (i .rank) (j .rank) (k .rank) _ _ _ (lex-between (i .sum) (j .sum) (k .sum) _ _ _ (lex-between (kindNumber (i .kind)) (kindNumber (j .kind)) (kindNumber (k .kind)) _ _ _ (ltb-between (i .number) (j .number) (k .number))))
+
+-- a bound that holds a key holds what does not come after it
+pub within-upTo : (u : Bound) (κ k : Key) → within u κ ≡ true → within (upTo κ) k ≡ true → within u k ≡ true
+within-upTo all κ k h w = refl
+within-upTo (below μ) κ k h w = ⊎-elim (λ e. absurd (both-ways (before κ k) (not-true (before κ k) w) e)) (λ e. e) (before-between κ k μ h)
+within-upTo (upTo μ) κ k h w =
+    ⊎-elim (λ e. absurd (⊎-elim (λ l. both-ways (before μ κ) (not-true (before μ κ) h) l) (λ l. both-ways (before κ k) (not-true (before κ k) w) l) (before-between μ κ k e))) (λ e. not-from-false (before μ k) e) (cases-bool (before μ k))

@@ -9,3 +9,4 @@ pub mod Completing
 pub mod Filling
 pub mod Frugal
 pub mod Rows
+pub mod Promises

@@ -3,7 +3,7 @@ use mathlib.Core.Path.{_≡_, refl, sym, _∙_, ap, ap₂, subst}
 use mathlib.Core.Bool.{Bool, true, false, cond}
 use mathlib.Core.Logic.{_⊎_, inl, inr, ⊎-elim}
 use mathlib.Core.List.{List, [], _∷_, _++_, map}
-use Prim.Native.Nat.{ℕ, suc, _+_, _≤_, _<_}
+use Prim.Native.Nat.{ℕ, zero, suc, _+_, _≤_, _<_}
 use native.Mathlib.Omega.{arith}
 use Rattle.std.specs.shelf.Lists.{All, kept-by}
 use Rattle.std.proofs.shelf.Tests.{cases-bool, both-ways}
@@ -263,3 +263,7 @@ module _ {A : Type 0} where
       go : (v : Bool) → t x ≡ v → (rest : List A) × (xs ≡ kept-by t xs ++ rest) → (rest : List A) × (x ∷ xs ≡ cond v (x ∷ kept-by t xs) (kept-by t xs) ++ rest)
       go true h (rest, e) = (rest, ap (λ ys. x ∷ ys) e)
       go false h k = (x ∷ xs, ap (λ ys. ys ++ (x ∷ xs)) (sym (kept-none t xs (all-weaker (λ y. lt x y ≡ true) (λ y. t y ≡ false) (λ y l. ⊎-elim (λ e. absurd (both-ways (t x) h (f x y l e))) (λ e. e) (cases-bool (t y))) xs (r .0)))))
+
+  pub length-kept : (t : A → Bool) (xs : List A) → length (kept-by t xs) ≡ count t xs
+  length-kept t [] = refl
+  length-kept t (x ∷ xs) = elim (t x) as (λ v. length (cond v (x ∷ kept-by t xs) (kept-by t xs)) ≡ bit v + count t xs) [ true ↦ omega (arith, length-kept t xs) | false ↦ omega (arith, length-kept t xs) ]

@@ -1,6 +1,6 @@
 -- The row of what a search meets, and the first halt along it.
 use mathlib.Core.Path.{_≡_, refl, sym, _∙_, ap, subst}
-use mathlib.Core.Bool.{Bool, true, false, not}
+use mathlib.Core.Bool.{Bool, true, false, not, cond}
 use mathlib.Core.Logic.{_⊎_, inl, inr, ⊎-elim}
 use mathlib.Core.List.{List, [], _∷_, _++_, map}
 use Prim.Native.Nat.{ℕ, zero, suc, _+_, _≤_, _<_}
@@ -68,6 +68,9 @@ isNone (Some x) = false
 pub some-none : {A P : Type 0} {x : A} → Some x ≡ None → P
 some-none h = absurd (both-ways false refl (ap isNone h))
 
+pub same-some : {A : Type 0} {x y : A} → Some x ≡ Some y → x ≡ y
+same-some e = cc
+
 -- two checks pass where both do
 pub both-pass : (x y : Bool) (f g : Fault) → orElse (refuseIf x f) (refuseIf y g) ≡ None → (x ≡ false) × (y ≡ false)
 both-pass true y f g h = some-none h
@@ -77,17 +80,7 @@ both-pass false false f g h = (refl, refl)
 -- and otherwise one of them says why not
 pub one-fails : (x y : Bool) (f g r : Fault) → orElse (refuseIf x f) (refuseIf y g) ≡ Some r → ((x ≡ true) × (r ≡ f)) ⊎ ((y ≡ true) × (r ≡ g))
 one-fails true y f g r h = inl (refl, sym (same-some h))
-  where
-    value : Option Fault → Fault
-    value None = f
-    value (Some x) = x
-
-    same-some : Some f ≡ Some r → f ≡ r
-    same-some e = cc
 one-fails false true f g r h = inr (refl, sym (same-some h))
-  where
-    same-some : Some g ≡ Some r → g ≡ r
-    same-some e = cc
 one-fails false false f g r h = some-none (sym h)
 
 module _ (q : Query) (laws : Laws q) (b : Book) (lawful : Lawful b) where
@@ -187,7 +180,7 @@ module _ (q : Query) (end : Ending) where
   call-cases (s ∷ xs) r zero = inl (s, here refl, refl, refl, sym (ap (λ v. kept-cons v) (not-from-false _ (before-same (stationKey q s))) ∙ ap (λ ys. s ∷ ys) (kept-none _ xs (all-weaker (λ t. before (stationKey q s) (stationKey q t) ≡ true) (λ t. not (before (stationKey q s) (stationKey q t)) ≡ false) (λ t h. not-from-true _ h) xs (r .0)))))
     where
       kept-cons : Bool → List stated.Station
-      kept-cons v = mathlib.Core.Bool.cond v (s ∷ upToBound q (upTo (stationKey q s)) xs) (upToBound q (upTo (stationKey q s)) xs)
+      kept-cons v = cond v (s ∷ upToBound q (upTo (stationKey q s)) xs) (upToBound q (upTo (stationKey q s)) xs)
   call-cases (s ∷ xs) r (suc n) = go (call-cases xs (r .1) n)
     where
       go : Hands xs n ⊎ Ends xs n → Hands (s ∷ xs) (suc n) ⊎ Ends (s ∷ xs) (suc n)
@@ -195,4 +188,4 @@ module _ (q : Query) (end : Ending) where
       go (inl h) =
           let t = h .0 in
           let w : not (before (stationKey q t) (stationKey q s)) ≡ true = not-from-false _ (not-after (stationKey q s) (stationKey q t) (all-at (λ y. before (stationKey q s) (stationKey q y) ≡ true) (r .0) (h .1))) in
-          inl (t, there (h .1), h .2, h .3, ap (λ ys. s ∷ ys) (h .4) ∙ sym (ap (λ v. mathlib.Core.Bool.cond v (s ∷ upToBound q (upTo (stationKey q t)) xs) (upToBound q (upTo (stationKey q t)) xs)) w))
+          inl (t, there (h .1), h .2, h .3, ap (λ ys. s ∷ ys) (h .4) ∙ sym (ap (λ v. cond v (s ∷ upToBound q (upTo (stationKey q t)) xs) (upToBound q (upTo (stationKey q t)) xs)) w))

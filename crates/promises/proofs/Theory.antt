@@ -71,7 +71,7 @@ module _ (q : Query) (laws : Laws q) where
       no e =
           omega (arith, ltb-true _ _ h, l1 xs c (ltb-false _ _ e), count-into (overs q c) (chosen q xs) ys (distinct (chosen q xs) (pairwise-kept _ _ xs apart)) (λ s m k. f s m (near s k)))
 
-  in-opened : (b : Book) (u : Bound) {c : Child} → c ∈ calledFor q b → within u (pageKey q c) ≡ true → c .page ∈ opened q b u
+  pub in-opened : (b : Book) (u : Bound) {c : Child} → c ∈ calledFor q b → within u (pageKey q c) ≡ true → c .page ∈ opened q b u
   in-opened b u m w = there (in-map (λ c. c .page) (in-kept (λ c. within u (pageKey q c)) m w))
 
   -- what holds of the top and of each page called for within the bound holds of each page opened

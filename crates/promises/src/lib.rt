@@ -1,6 +1,8 @@
 // What the search promises, as theorems over the model of a book. Each stands on the contract of a call that does nothing else.
 ghost use Rattle.promises.specs.Bands.{BandsKeepLaws, BandsAnswer};
+ghost use Rattle.promises.specs.Filling.{Fillable};
 ghost use Rattle.promises.specs.Foundations.{Counting, Listed, Upward, Standing, Onward, SameAnswers};
+ghost use Rattle.promises.specs.Promises.{Sound, SoundDone, Frugal, Decisive, Exact};
 
 pub fn bands_keep_laws() -> u8
     ensures { λ _. ⌜ BandsKeepLaws ⌝ }
@@ -46,6 +48,42 @@ pub fn opened_pages_lead_on() -> u8
 
 pub fn same_pages_same_answers() -> u8
     ensures { λ _. ⌜ SameAnswers ⌝ }
+{
+    0
+}
+
+pub fn named_pages_can_be_filled() -> u8
+    ensures { λ _. ⌜ Fillable ⌝ }
+{
+    0
+}
+
+pub fn answers_begin_with_the_handed() -> u8
+    ensures { λ _. ⌜ Sound ⌝ }
+{
+    0
+}
+
+pub fn answers_are_the_handed_after_done() -> u8
+    ensures { λ _. ⌜ SoundDone ⌝ }
+{
+    0
+}
+
+pub fn settling_sets_hold_the_opened() -> u8
+    ensures { λ _. ⌜ Frugal ⌝ }
+{
+    0
+}
+
+pub fn done_when_something_settles() -> u8
+    ensures { λ _. ⌜ Decisive ⌝ }
+{
+    0
+}
+
+pub fn whole_books_are_done() -> u8
+    ensures { λ _. ⌜ Exact ⌝ }
 {
     0
 }
