@@ -10,3 +10,4 @@ pub mod Filling
 pub mod Frugal
 pub mod Rows
 pub mod Promises
+pub mod Stepping

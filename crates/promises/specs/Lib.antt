@@ -8,3 +8,4 @@ pub mod Filling
 pub mod Waiting
 pub mod Searching
 pub mod Promises
+pub mod Stepping

@@ -2,6 +2,7 @@
 ghost use Rattle.promises.specs.Bands.{BandsKeepLaws, BandsAnswer};
 ghost use Rattle.promises.specs.Filling.{Fillable};
 ghost use Rattle.promises.specs.Foundations.{Counting, Listed, Upward, Standing, Onward, SameAnswers};
+ghost use Rattle.promises.specs.Stepping.{Stepping};
 ghost use Rattle.promises.specs.Promises.{Sound, SoundDone, Frugal, Decisive, Exact};
 
 pub fn bands_keep_laws() -> u8
@@ -84,6 +85,12 @@ pub fn done_when_something_settles() -> u8
 
 pub fn whole_books_are_done() -> u8
     ensures { λ _. ⌜ Exact ⌝ }
+{
+    0
+}
+
+pub fn next_steps_along_the_row() -> u8
+    ensures { λ _. ⌜ Stepping ⌝ }
 {
     0
 }
