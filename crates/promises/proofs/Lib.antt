@@ -11,3 +11,4 @@ pub mod Frugal
 pub mod Rows
 pub mod Promises
 pub mod Stepping
+pub mod Cases

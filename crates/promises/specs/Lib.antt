@@ -9,3 +9,5 @@ pub mod Waiting
 pub mod Searching
 pub mod Promises
 pub mod Stepping
+pub mod Cases
+pub mod Histories

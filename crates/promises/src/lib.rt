@@ -1,5 +1,6 @@
 // What the search promises, as theorems over the model of a book. Each stands on the contract of a call that does nothing else.
 ghost use Rattle.promises.specs.Bands.{BandsKeepLaws, BandsAnswer};
+ghost use Rattle.promises.specs.Cases.{WorkedCases};
 ghost use Rattle.promises.specs.Filling.{Fillable};
 ghost use Rattle.promises.specs.Foundations.{Counting, Listed, Upward, Standing, Onward, SameAnswers};
 ghost use Rattle.promises.specs.Stepping.{Stepping};
@@ -91,6 +92,12 @@ pub fn whole_books_are_done() -> u8
 
 pub fn next_steps_along_the_row() -> u8
     ensures { λ _. ⌜ Stepping ⌝ }
+{
+    0
+}
+
+pub fn worked_cases_hold() -> u8
+    ensures { λ _. ⌜ WorkedCases ⌝ }
 {
     0
 }

@@ -1,0 +1,26 @@
+-- The worked cases, by evaluation.
+use mathlib.Core.Path.{_≡_, refl}
+use Rattle.promises.specs.Cases.{Holds, cases, WorkedCases}
+
+pub worked-cases : WorkedCases
+worked-cases = record {
+  all = (record { numbers = refl; pages = refl; last = refl },
+      (record { numbers = refl; pages = refl; last = refl },
+      (record { numbers = refl; pages = refl; last = refl },
+      (record { numbers = refl; pages = refl; last = refl },
+      (record { numbers = refl; pages = refl; last = refl },
+      (record { numbers = refl; pages = refl; last = refl },
+      (record { numbers = refl; pages = refl; last = refl },
+      (record { numbers = refl; pages = refl; last = refl },
+      (record { numbers = refl; pages = refl; last = refl },
+      (record { numbers = refl; pages = refl; last = refl },
+      (record { numbers = refl; pages = refl; last = refl },
+      (record { numbers = refl; pages = refl; last = refl },
+      (record { numbers = refl; pages = refl; last = refl },
+      (record { numbers = refl; pages = refl; last = refl },
+      tt))))))))))))));
+  corner = refl;
+  eight = refl;
+  nine = refl;
+  fourteen = refl;
+}
