@@ -12,3 +12,4 @@ pub mod Rows
 pub mod Promises
 pub mod Stepping
 pub mod Cases
+pub mod Histories

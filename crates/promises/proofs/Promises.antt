@@ -91,7 +91,7 @@ module _ (q : Query) (laws : Laws q) (b : Book) (lawful : Lawful b) where
     abbrev end : Ending
     end = ending q b limits
 
-    rising-handed : Pairwise (λ s t. before (stationKey q s) (stationKey q t) ≡ true) (handed q b limits)
+    pub rising-handed : Pairwise (λ s t. before (stationKey q s) (stationKey q t) ≡ true) (handed q b limits)
     rising-handed = pairwise-kept _ (λ s. within (listedBound end) (stationKey q s)) (answer q b) (rising-answer q laws b lawful)
 
     -- a search that halts at the top hands out nothing
@@ -134,7 +134,7 @@ module _ (q : Query) (laws : Laws q) (b : Book) (lawful : Lawful b) where
     done-live : end ≡ done → All (λ p. IsLive (slot b p)) (opened q b all)
     done-live d = live-opened q laws b lawful limits all (top-opens d) (λ k _. subst (λ e. within (listedBound e) k ≡ true) (sym d) refl)
 
-    done-call : (n : ℕ) → next q b limits n ≡ Ok None → (end ≡ done) × (length (handed q b limits) ≤ n) × (boundAt q (handed q b limits) end n ≡ openedBound end)
+    pub done-call : (n : ℕ) → next q b limits n ≡ Ok None → (end ≡ done) × (length (handed q b limits) ≤ n) × (boundAt q (handed q b limits) end n ≡ openedBound end)
     done-call n h = ⊎-elim (λ r. absurd (both-ways true (ap isHanded (sym (r .2) ∙ h)) refl)) (λ r. (done-reply end (sym (r .1) ∙ h), r .0, r .2)) (call-cases q end (handed q b limits) rising-handed n)
 
     sound-done-call : (n : ℕ) → next q b limits n ≡ Ok None → (w : Book) → Keeps b (openedAfter q b limits (suc n)) w → answer q w ≡ handedAfter q b limits n
@@ -144,7 +144,7 @@ module _ (q : Query) (laws : Laws q) (b : Book) (lawful : Lawful b) where
         sym (same-whole w (k .lawful) (agree all all w (done-live (d .0)) (λ p m. m) kept)) ∙ sym (handed-all (d .0)) ∙ sym (take-all n (handed q b limits) (d .1))
 
     -- done, so what was opened settles
-    done-settles : end ≡ done → Settles q b (opened q b all)
+    pub done-settles : end ≡ done → Settles q b (opened q b all)
     done-settles d = record {
       rooted = record { top = here refl; live = done-live d; hangs = opened-all q laws b all (NamedFrom b (opened q b all)) (inl refl) (λ c m _. hung c m) };
       same = λ v w kv kw. sym (same-whole v (kv .lawful) (agree all all v (done-live d) (λ p m. m) kv)) ∙ same-whole w (kw .lawful) (agree all all w (done-live d) (λ p m. m) kw);

@@ -16,7 +16,7 @@ use Rattle.stations.specs.declared.fault.Code.the-variants.{NoSearch, DeadPage}
 use Rattle.stations.specs.Faults.{fault, placeless, verdict}
 use Rattle.stations.specs.Questions.{questionFault}
 use Rattle.books.specs.Lists.{_∈_}
-use Rattle.books.specs.Books.{Book, dead, slot, Lawful}
+use Rattle.books.specs.Books.{Book, dead, slot, Lawful, Whole}
 use Rattle.promises.specs.Queries.{Query, answer}
 use Rattle.promises.specs.Bands.{bands, Monotone}
 use Rattle.promises.specs.Settling.{Keeps, Settles}
@@ -94,6 +94,8 @@ pub record Promised (rank : Measures → ℕ) (b : Book) (limits : Limits) (h : 
   -- a halt within the limits names a dead page, and nothing settles the question
   pub unsettled : Within (bands rank question) b limits → (f : Fault) → phase (bands rank question) b limits n ≡ halted f →
       (p : ℕ) × (f ≡ fault DeadPage p 0) × (slot b p ≡ dead) × ((ps : List ℕ) → Settles (bands rank question) b ps → ⊥)
+  -- over a whole book and within the limits there is no halt, and after done the answer was handed out
+  pub exact : Whole b → Within (bands rank question) b limits → ((f : Fault) → phase (bands rank question) b limits n ≡ halted f → ⊥) × (phase (bands rank question) b limits n ≡ done → handedIn [] h ≡ answer (bands rank question) b)
   -- a search that has ended stays ended: the same answer again, and no page more
   pub stays : (phase (bands rank question) b limits n ≡ searching → ⊥) →
       (phase (bands rank question) b limits (suc n) ≡ phase (bands rank question) b limits n) × (openedAfter (bands rank question) b limits (suc n) ≡ openedAfter (bands rank question) b limits n)

@@ -4,6 +4,7 @@ ghost use Rattle.promises.specs.Cases.{WorkedCases};
 ghost use Rattle.promises.specs.Filling.{Fillable};
 ghost use Rattle.promises.specs.Foundations.{Counting, Listed, Upward, Standing, Onward, SameAnswers};
 ghost use Rattle.promises.specs.Stepping.{Stepping};
+ghost use Rattle.promises.specs.Histories.{EveryHistory};
 ghost use Rattle.promises.specs.Promises.{Sound, SoundDone, Frugal, Decisive, Exact};
 
 pub fn bands_keep_laws() -> u8
@@ -98,6 +99,12 @@ pub fn next_steps_along_the_row() -> u8
 
 pub fn worked_cases_hold() -> u8
     ensures { λ _. ⌜ WorkedCases ⌝ }
+{
+    0
+}
+
+pub fn promises_hold_after_any_history() -> u8
+    ensures { λ _. ⌜ EveryHistory ⌝ }
 {
     0
 }
