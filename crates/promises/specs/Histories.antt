@@ -81,25 +81,24 @@ abbrev pub phase : Query → Book → Limits → ℕ → Phase
 phase q b limits zero = searching
 phase q b limits (suc n) = phaseBy (next q b limits n)
 
--- what is promised where a question stands after a history, with n calls of `next` since it was started
-pub record Promised (rank : Measures → ℕ) (b : Book) (limits : Limits) (h : List Event) (question : Question) (n : ℕ) : Type 0 where
-  -- every whole lawful book with the live pages opened so far has an answer that begins with what was handed out
-  pub sound : (w : Book) → Keeps b (openedAfter (bands rank question) b limits n) w → Begins (handedIn [] h) (answer (bands rank question) w)
-  -- and after done, exactly that answer
-  pub sound-done : phase (bands rank question) b limits n ≡ done → (w : Book) → Keeps b (openedAfter (bands rank question) b limits n) w → answer (bands rank question) w ≡ handedIn [] h
-  -- a set that settles the question holds every page opened so far, and has at least as many
-  pub frugal : (ps : List ℕ) → Settles (bands rank question) b ps → All (λ p. p ∈ ps) (openedAfter (bands rank question) b limits n) × (length (openedAfter (bands rank question) b limits n) ≤ length ps)
-  -- after done, what was opened settles the question
-  pub settled : phase (bands rank question) b limits n ≡ done → Settles (bands rank question) b (openedAfter (bands rank question) b limits n)
+-- what is promised after n calls of `next`, with these stations handed out
+pub record Promised (q : Query) (b : Book) (limits : Limits) (n : ℕ) (out : List Station) : Type 0 where
+  -- every whole lawful book with the live pages opened so far has an answer that begins with them
+  pub sound : (w : Book) → Keeps b (openedAfter q b limits n) w → Begins out (answer q w)
+  -- and after done it has exactly that answer
+  pub sound-done : phase q b limits n ≡ done → (w : Book) → Keeps b (openedAfter q b limits n) w → answer q w ≡ out
+  -- a set of live pages that settles the question holds every page opened so far, and has at least as many
+  pub frugal : (ps : List ℕ) → Settles q b ps → All (λ p. p ∈ ps) (openedAfter q b limits n) × (length (openedAfter q b limits n) ≤ length ps)
+  -- after done, the pages opened settle the question
+  pub settled : phase q b limits n ≡ done → Settles q b (openedAfter q b limits n)
   -- a halt within the limits names a dead page, and nothing settles the question
-  pub unsettled : Within (bands rank question) b limits → (f : Fault) → phase (bands rank question) b limits n ≡ halted f →
-      (p : ℕ) × (f ≡ fault DeadPage p 0) × (slot b p ≡ dead) × ((ps : List ℕ) → Settles (bands rank question) b ps → ⊥)
+  pub unsettled : Within q b limits → (f : Fault) → phase q b limits n ≡ halted f → (p : ℕ) × (f ≡ fault DeadPage p 0) × (slot b p ≡ dead) × ((ps : List ℕ) → Settles q b ps → ⊥)
   -- over a whole book and within the limits there is no halt, and after done the answer was handed out
-  pub exact : Whole b → Within (bands rank question) b limits → ((f : Fault) → phase (bands rank question) b limits n ≡ halted f → ⊥) × (phase (bands rank question) b limits n ≡ done → handedIn [] h ≡ answer (bands rank question) b)
-  -- a search that has ended stays ended: the same answer again, and no page more
-  pub stays : (phase (bands rank question) b limits n ≡ searching → ⊥) →
-      (phase (bands rank question) b limits (suc n) ≡ phase (bands rank question) b limits n) × (openedAfter (bands rank question) b limits (suc n) ≡ openedAfter (bands rank question) b limits n)
+  pub exact : Whole b → Within q b limits → ((f : Fault) → phase q b limits n ≡ halted f → ⊥) × (phase q b limits n ≡ done → out ≡ answer q b)
+  -- a search that has ended stays ended: the same reply again, and no page more
+  pub stays : (phase q b limits n ≡ searching → ⊥) → (phase q b limits (suc n) ≡ phase q b limits n) × (openedAfter q b limits (suc n) ≡ openedAfter q b limits n)
 
--- the promise of every run: for every monotone ranking, every lawful book, every pair of limits and every history
+-- the promise of every run: for every monotone ranking, every lawful book, every pair of limits and every history, of the question that stands
 abbrev pub EveryHistory : Type 0
-EveryHistory = (rank : Measures → ℕ) → Monotone rank → (b : Book) → Lawful b → (limits : Limits) (h : List Event) (question : Question) (n : ℕ) → History rank b limits h (asked question n) → Promised rank b limits h question n
+EveryHistory = (rank : Measures → ℕ) → Monotone rank → (b : Book) → Lawful b → (limits : Limits) (h : List Event) (question : Question) (n : ℕ) → History rank b limits h (asked question n) →
+    Promised (bands rank question) b limits n (handedIn [] h)
