@@ -4,20 +4,20 @@ use Rattle.promises.specs.Cases.{Holds, cases, WorkedCases}
 
 pub worked-cases : WorkedCases
 worked-cases = record {
-  all = (record { numbers = refl; pages = refl; last = refl },
-      (record { numbers = refl; pages = refl; last = refl },
-      (record { numbers = refl; pages = refl; last = refl },
-      (record { numbers = refl; pages = refl; last = refl },
-      (record { numbers = refl; pages = refl; last = refl },
-      (record { numbers = refl; pages = refl; last = refl },
-      (record { numbers = refl; pages = refl; last = refl },
-      (record { numbers = refl; pages = refl; last = refl },
-      (record { numbers = refl; pages = refl; last = refl },
-      (record { numbers = refl; pages = refl; last = refl },
-      (record { numbers = refl; pages = refl; last = refl },
-      (record { numbers = refl; pages = refl; last = refl },
-      (record { numbers = refl; pages = refl; last = refl },
-      (record { numbers = refl; pages = refl; last = refl },
+  all = (record { lawful = refl; numbers = refl; pages = refl; last = refl },
+      (record { lawful = refl; numbers = refl; pages = refl; last = refl },
+      (record { lawful = refl; numbers = refl; pages = refl; last = refl },
+      (record { lawful = refl; numbers = refl; pages = refl; last = refl },
+      (record { lawful = refl; numbers = refl; pages = refl; last = refl },
+      (record { lawful = refl; numbers = refl; pages = refl; last = refl },
+      (record { lawful = refl; numbers = refl; pages = refl; last = refl },
+      (record { lawful = refl; numbers = refl; pages = refl; last = refl },
+      (record { lawful = refl; numbers = refl; pages = refl; last = refl },
+      (record { lawful = refl; numbers = refl; pages = refl; last = refl },
+      (record { lawful = refl; numbers = refl; pages = refl; last = refl },
+      (record { lawful = refl; numbers = refl; pages = refl; last = refl },
+      (record { lawful = refl; numbers = refl; pages = refl; last = refl },
+      (record { lawful = refl; numbers = refl; pages = refl; last = refl },
       tt))))))))))))));
   corner = refl;
   eight = refl;

@@ -77,6 +77,26 @@ module _ (rank : Measures → ℕ) (b : Book) (limits : Limits) where
   history-hands new = refl
   history-hands (then {h} {stood} {stands} e past t) = handed-more [] h e ∙ ap (λ ss. handing ss e) (history-hands past) ∙ takes-hands stood e stands t
 
+-- a question that stands was not refused
+abbrev Accepted : Standing → Type 0
+Accepted nothing = Unit {0}
+Accepted (asked question n) = questionFault question ≡ None
+
+start-accepted : (question : Question) (o : Option Fault) → questionFault question ≡ o → (stood : Standing) → Accepted stood → Accepted (afterStart question o stood)
+start-accepted question (Some f) e stood h = h
+start-accepted question None e stood h = e
+
+takes-accepted : (rank : Measures → ℕ) (b : Book) (limits : Limits) (stood : Standing) (e : Event) (stands : Standing) → Accepted stood → Takes rank b limits stood e stands → Accepted stands
+takes-accepted rank b limits stood (started question r) stands h t = subst Accepted (sym (t .1)) (start-accepted question (questionFault question) refl stood h)
+takes-accepted rank b limits nothing (nexted r) stands h t = subst Accepted (sym (t .1)) tt
+takes-accepted rank b limits (asked question n) (nexted r) stands h t = subst Accepted (sym (t .1)) h
+takes-accepted rank b limits nothing (stopped r) stands h t = subst Accepted (sym (t .1)) tt
+takes-accepted rank b limits (asked question n) (stopped r) stands h t = subst Accepted (sym (t .1)) tt
+
+history-accepted : {rank : Measures → ℕ} {b : Book} {limits : Limits} {h : List Event} {stands : Standing} → History rank b limits h stands → Accepted stands
+history-accepted new = tt
+history-accepted {rank} {b} {limits} (then {h} {stood} {stands} e past t) = takes-accepted rank b limits stood e stands (history-accepted past) t
+
 abbrev isSearching : Phase → Bool
 isSearching searching = true
 isSearching done = false
@@ -147,7 +167,7 @@ module _ (q : Query) (laws : Laws q) (b : Book) (lawful : Lawful b) (limits : Li
       (call-cases q end (handed q b limits) (rising-handed q laws b lawful limits) n)
 
 pub every-history : EveryHistory
-every-history rank mono b lawful limits h question n past = record {
+every-history rank mono b lawful limits h question n past = (history-accepted past, record {
   sound = λ w k. subst (λ ss. Begins ss (answer q w)) (sym same) (sound q laws b lawful limits n w k);
   sound-done = λ d w k. sound-done-at q laws b lawful limits n d w k ∙ sym same;
   frugal = frugal q laws b lawful limits n;
@@ -155,7 +175,7 @@ every-history rank mono b lawful limits h question n past = record {
   unsettled = λ room. unsettled-at q laws b lawful limits room n;
   exact = λ whole room. let e = exact-at q laws b lawful limits whole room n in (e .0, λ d. same ∙ e .1 d);
   stays = stays-at q laws b lawful limits n;
-}
+})
   where
     q : Query
     q = bands rank question

@@ -13,3 +13,4 @@ pub mod Promises
 pub mod Stepping
 pub mod Cases
 pub mod Histories
+pub mod Checking

@@ -1,5 +1,6 @@
 -- Worked cases: small books and questions, with what a search over them comes to.
 use mathlib.Core.Path.{_≡_}
+use mathlib.Core.Bool.{true}
 use mathlib.Core.List.{List, [], _∷_, map}
 use Prim.Native.Nat.{ℕ, suc, _-_}
 use lib.Dec.{lit≤}
@@ -21,8 +22,8 @@ use Rattle.rankings.specs.declared.weights.Weights.{Weights}
 use Rattle.rankings.specs.Scores.{weightedSum}
 use Rattle.books.specs.declared.Child.{Child}
 use Rattle.books.specs.Books.{Slot, dead, leaf, node, Book, worst}
-use Rattle.promises.specs.Queries.{Query}
 use Rattle.promises.specs.Bands.{bands}
+use Rattle.promises.specs.Checking.{lawful}
 use Rattle.promises.specs.Searching.{Limits, handed, next, openedAfter}
 
 -- measures of which the last two are 0
@@ -59,8 +60,9 @@ pub record Case : Type 0 where
   pub pages : List ℕ
   pub last : Result (Option Station) Fault
 
--- the search of the case gives what the case says
+-- the book is lawful, and the search of the case gives what the case says
 pub record Holds (c : Case) : Type 0 where
+  pub lawful : lawful (c .book) ≡ true
   pub numbers : map (λ s. s .number) (handed (bands (c .rank) (c .question)) (c .book) (c .limits)) ≡ c .numbers
   pub pages : openedAfter (bands (c .rank) (c .question)) (c .book) (c .limits) (suc (length (c .numbers))) ≡ c .pages
   pub last : next (bands (c .rank) (c .question)) (c .book) (c .limits) (length (c .numbers)) ≡ c .last

@@ -98,7 +98,7 @@ pub record Promised (q : Query) (b : Book) (limits : Limits) (n : ℕ) (out : Li
   -- a search that has ended stays ended: the same reply again, and no page more
   pub stays : (phase q b limits n ≡ searching → ⊥) → (phase q b limits (suc n) ≡ phase q b limits n) × (openedAfter q b limits (suc n) ≡ openedAfter q b limits n)
 
--- the promise of every run: for every monotone ranking, every lawful book, every pair of limits and every history, of the question that stands
+-- the promise of every run, for every monotone ranking, every lawful book, every pair of limits and every history: the question that stands was not refused, and what is promised of it holds
 abbrev pub EveryHistory : Type 0
 EveryHistory = (rank : Measures → ℕ) → Monotone rank → (b : Book) → Lawful b → (limits : Limits) (h : List Event) (question : Question) (n : ℕ) → History rank b limits h (asked question n) →
-    Promised (bands rank question) b limits n (handedIn [] h)
+    (questionFault question ≡ None) × Promised (bands rank question) b limits n (handedIn [] h)

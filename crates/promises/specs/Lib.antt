@@ -9,5 +9,6 @@ pub mod Waiting
 pub mod Searching
 pub mod Promises
 pub mod Stepping
+pub mod Checking
 pub mod Cases
 pub mod Histories

@@ -1,6 +1,7 @@
 // What the search promises, as theorems over the model of a book. Each stands on the contract of a call that does nothing else.
 ghost use Rattle.promises.specs.Bands.{BandsKeepLaws, BandsAnswer};
 ghost use Rattle.promises.specs.Cases.{WorkedCases};
+ghost use Rattle.promises.specs.Checking.{Checked};
 ghost use Rattle.promises.specs.Filling.{Fillable};
 ghost use Rattle.promises.specs.Foundations.{Counting, Listed, Upward, Standing, Onward, SameAnswers};
 ghost use Rattle.promises.specs.Stepping.{Stepping};
@@ -105,6 +106,12 @@ pub fn worked_cases_hold() -> u8
 
 pub fn promises_hold_after_any_history() -> u8
     ensures { λ _. ⌜ EveryHistory ⌝ }
+{
+    0
+}
+
+pub fn tested_books_are_lawful() -> u8
+    ensures { λ _. ⌜ Checked ⌝ }
 {
     0
 }
