@@ -20,6 +20,7 @@ pub data Slot : Type 0 where
   leaf : List Station → Slot
   node : ℕ → List Child → Slot
 
+-- by page number
 abbrev pub Book : Type 0
 Book = List Slot
 
@@ -27,16 +28,19 @@ Book = List Slot
 abbrev pub slot : Book → ℕ → Slot
 slot b p = getD b p dead
 
+-- a page's level
 abbrev pub level : Slot → ℕ
 level dead = 0
 level (leaf ss) = 0
 level (node l cs) = suc l
 
+-- the stations that a page holds
 abbrev pub stationsOn : Slot → List Station
 stationsOn dead = []
 stationsOn (leaf ss) = ss
 stationsOn (node l cs) = []
 
+-- the pages that a page names
 abbrev pub childrenOn : Slot → List Child
 childrenOn dead = []
 childrenOn (leaf ss) = []

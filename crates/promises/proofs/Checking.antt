@@ -1,19 +1,19 @@
 -- The test of a book is sound.
-use mathlib.Core.Path.{_≡_, refl, sym, ap, subst, _∙_}
-use mathlib.Core.Logic.{_⊎_, inl, inr, ⊎-elim}
-use mathlib.Core.Bool.{Bool, true, false, _&&_, _||_}
+use mathlib.Core.Path.{_≡_, refl, sym, subst}
+use mathlib.Core.Logic.{⊎-elim}
+use mathlib.Core.Bool.{Bool, true, _||_}
 use mathlib.Core.List.{List, [], _∷_}
 use Prim.Native.Nat.{ℕ, zero, suc, _+_, _≤_, _<_}
 use native.Mathlib.Omega.{arith}
 use native.Mathlib.Nat.{add-zero, zero-add}
-use lib.Dec.{eqb, leb, ltb}
+use lib.Dec.{eqb, leb}
 use lib.ListN.{length}
 use Rattle.std.specs.shelf.Lists.{All}
 use Rattle.std.proofs.shelf.Tests.{ltb-true, leb-true, eqb-true, and-parts, or-cases, cases-lt}
 use Rattle.stations.specs.declared.region.Region.{Region}
-use Rattle.stations.specs.Beating.{_≼_, atMost}
+use Rattle.stations.specs.Beating.{_≼_}
 use Rattle.stations.specs.Counting.{count}
-use Rattle.books.specs.Books.{Book, Slot, dead, leaf, node, slot, level, size, childrenOn, stations, named, names, numbered, worst, IsLive, Inside, Nested, Fits, Filled, Lawful}
+use Rattle.books.specs.Books.{Book, Slot, dead, leaf, node, slot, level, size, childrenOn, stations, named, names, worst, IsLive, Inside, Nested, Fits, Filled, Lawful}
 use Rattle.promises.specs.Checking.{every, once, everySlot, fits, filled, reached, slotRules, entryRules, lawful, Checked}
 use Rattle.promises.proofs.Lists.{all-at, count-some}
 use Rattle.promises.proofs.Bands.{at-most-le}

@@ -1,44 +1,32 @@
 -- Every settling set holds every page that is called for.
-use mathlib.Core.Path.{_≡_, refl, sym, _∙_, ap, subst}
-use mathlib.Core.Bool.{Bool, true, false}
+use mathlib.Core.Path.{_≡_, refl, subst}
+use mathlib.Core.Bool.{Bool, true}
 use mathlib.Core.Logic.{_⊎_, inl, inr, ⊎-elim}
-use mathlib.Core.List.{List, [], _∷_, map}
-use Prim.Native.Nat.{ℕ, zero, suc, _+_, _≤_, _<_}
+use mathlib.Core.List.{List}
+use Prim.Native.Nat.{ℕ, zero, suc, _≤_, _<_}
 use native.Mathlib.Omega.{arith}
 use lib.ListN.{length}
 use Rattle.std.specs.shelf.Lists.{All, kept-by}
 use Rattle.std.proofs.shelf.Elements.{all-map}
-use Rattle.std.proofs.shelf.Tests.{cases-eq, ltb-true, lt-ltb, and-parts, and-from}
+use Rattle.std.proofs.shelf.Tests.{ltb-true, lt-ltb, and-parts, and-from}
 use Rattle.stations.specs.declared.station.Station as stated
 use Rattle.stations.specs.declared.key.Kind.the-variants.{Page, Station}
 use Rattle.stations.specs.Keys.{before}
 use Rattle.stations.specs.Counting.{count}
 use Rattle.books.specs.declared.Child.{Child}
-use Rattle.books.specs.Lists.{Pairwise, _∈_, here, there}
-use Rattle.books.specs.Books.{Book, slot, stationsOn, childrenOn, stations, named, Lawful, Inside}
+use Rattle.books.specs.Lists.{Pairwise, _∈_}
+use Rattle.books.specs.Books.{Book, slot, stationsOn, childrenOn, stations, named, Lawful}
 use Rattle.promises.specs.Bounds.{Bound, all, within}
-use Rattle.promises.specs.Queries.{Query, Laws, keyAt, stationKey, pageKey, field, overs, few, chosen, answer}
+use Rattle.promises.specs.Queries.{Query, Laws, stationKey, pageKey, field, overs, few, chosen, answer}
 use Rattle.promises.specs.Opening.{calls, calledFor, opened}
-use Rattle.promises.specs.Settling.{Keeps, Settles}
+use Rattle.promises.specs.Settling.{Settles}
 use Rattle.promises.specs.Filling.{StandsOn, LiesBelow, Fills}
 use Rattle.promises.proofs.Lists.{all-at, all-from, in-kept, of-kept, pairwise-kept, pairwise-mapped, count-le, count-less, count-into, count-all, in-sort, of-sort}
 use Rattle.promises.proofs.Keys.{before-trans, before-same}
 use Rattle.promises.proofs.Books.{of-joined, in-joined, shape}
 use Rattle.promises.proofs.Theory.{distinct, numbered, opened-ind, opened-wider}
+use Rattle.promises.proofs.Cutting.{holds-or-not}
 use Rattle.promises.proofs.Filling.{fillable}
-
-pub decide-in : (p : ℕ) (ps : List ℕ) → (p ∈ ps) ⊎ (p ∈ ps → ⊥)
-decide-in p [] = inr (λ m. elim m [ ])
-decide-in p (r ∷ ps) = go (cases-eq p r) (decide-in p ps)
-  where
-    neither : (p ≡ r → ⊥) → (p ∈ ps → ⊥) → p ∈ (r ∷ ps) → ⊥
-    neither f g (here e) = f e
-    neither f g (there m) = g m
-
-    go : (p ≡ r) ⊎ (p ≡ r → ⊥) → (p ∈ ps) ⊎ (p ∈ ps → ⊥) → (p ∈ (r ∷ ps)) ⊎ (p ∈ (r ∷ ps) → ⊥)
-    go (inl e) d = inl (here e)
-    go (inr f) (inl m) = inl (there m)
-    go (inr f) (inr g) = inr (neither f g)
 
 module _ (q : Query) (laws : Laws q) (b : Book) (lawful : Lawful b) (ps : List ℕ) (settles : Settles q b ps) where
   -- a page called for, named on the set and not in it
@@ -99,7 +87,7 @@ module _ (q : Query) (laws : Laws q) (b : Book) (lawful : Lawful b) (ps : List �
 
   pub holds : All (λ p. p ∈ ps) (opened q b all)
   holds = opened-ind q laws b (shape b lawful) all (λ p. p ∈ ps) (settles .rooted .top) (λ p d i m t _.
-      ⊎-elim (λ k. k) (λ ne. absurd (no-edge (suc (count (earlier d) (calledFor q b))) d (omega arith) (p, i, m, t, ne))) (decide-in (d .page) ps))
+      ⊎-elim (λ k. k) (λ ne. absurd (no-edge (suc (count (earlier d) (calledFor q b))) d (omega arith) (p, i, m, t, ne))) (holds-or-not (d .page) ps))
 
 -- the pages opened as far as a bound stand there once
 opened-once : (q : Query) (b : Book) → Lawful b → (u : Bound) → Pairwise (λ x y. x ≡ y → ⊥) (opened q b u)

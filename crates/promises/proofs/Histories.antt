@@ -1,16 +1,15 @@
 -- The promises hold of what stands after any history.
 use mathlib.Core.Path.{_≡_, refl, sym, _∙_, ap, subst}
 use mathlib.Core.Bool.{Bool, true, false}
-use mathlib.Core.Logic.{_⊎_, inl, inr, ⊎-elim}
+use mathlib.Core.Logic.{⊎-elim}
 use mathlib.Core.List.{List, [], _∷_, _++_}
-use Prim.Native.Nat.{ℕ, zero, suc, _+_, _≤_, _<_}
+use Prim.Native.Nat.{ℕ, zero, suc}
 use native.Mathlib.Omega.{arith}
-use lib.ListN.{length, take}
+use lib.ListN.{take}
 use Rattle.std.specs.declared.option.Option.{Option}
 use Rattle.std.specs.declared.option.Option.the-variants.{Some, None}
 use Rattle.std.specs.declared.result.Result.{Result}
 use Rattle.std.specs.declared.result.Result.the-variants.{Ok, Err}
-use Rattle.std.specs.shelf.Lists.{All}
 use Rattle.std.proofs.shelf.Lists.{take-all}
 use Rattle.std.proofs.shelf.Tests.{both-ways}
 use Rattle.stations.specs.declared.measures.Measures.{Measures}
@@ -23,16 +22,16 @@ use Rattle.stations.specs.Questions.{questionFault}
 use Rattle.books.specs.Books.{Book, dead, slot, Lawful, Whole}
 use Rattle.promises.specs.Bounds.{all}
 use Rattle.promises.specs.Queries.{Query, Laws, answer}
-use Rattle.promises.specs.Bands.{bands, Monotone}
+use Rattle.promises.specs.Bands.{bands}
 use Rattle.promises.specs.Opening.{opened}
 use Rattle.promises.specs.Settling.{Keeps, Settles}
 use Rattle.promises.specs.Searching as search
-use Rattle.promises.specs.Searching.{Limits, Ending, openedBound, lastReply, replyAt, boundAt, ending, handed, next, handedAfter, openedAfter, Within}
-use Rattle.promises.specs.Promises.{Begins, Decides}
-use Rattle.promises.specs.Histories.{Event, started, nexted, stopped, Standing, nothing, asked, afterStart, Takes, History, new, then, handing, handedIn, Phase, searching, done, halted, phaseBy, phase, Promised, EveryHistory}
+use Rattle.promises.specs.Searching.{Limits, Ending, openedBound, lastReply, replyAt, ending, handed, next, handedAfter, openedAfter, Within}
+use Rattle.promises.specs.Promises.{Begins}
+use Rattle.promises.specs.Histories.{Event, started, nexted, stopped, Standing, nothing, asked, afterStart, Takes, History, new, then, handing, handedIn, Phase, searching, done, halted, phaseBy, phase, EveryHistory}
 use Rattle.promises.proofs.Bands.{bands-keep-laws}
-use Rattle.promises.proofs.Rows.{Hands, Ends, call-cases}
-use Rattle.promises.proofs.Promises.{not-done, rising-handed, done-call, done-settles, sound, sound-done, frugal, decisive, exact}
+use Rattle.promises.proofs.Rows.{call-cases}
+use Rattle.promises.proofs.Promises.{rising-handed, done-call, done-settles, sound, sound-done, frugal, decisive, exact}
 use Rattle.promises.proofs.Stepping.{past-end}
 
 -- a reply to `next` at the end of what was handed out
@@ -167,15 +166,18 @@ module _ (q : Query) (laws : Laws q) (b : Book) (lawful : Lawful b) (limits : Li
       (call-cases q end (handed q b limits) (rising-handed q laws b lawful limits) n)
 
 pub every-history : EveryHistory
-every-history rank mono b lawful limits h question n past = (history-accepted past, record {
-  sound = λ w k. subst (λ ss. Begins ss (answer q w)) (sym same) (sound q laws b lawful limits n w k);
-  sound-done = λ d w k. sound-done-at q laws b lawful limits n d w k ∙ sym same;
-  frugal = frugal q laws b lawful limits n;
-  settled = λ d. settled-at q laws b lawful limits n d;
-  unsettled = λ room. unsettled-at q laws b lawful limits room n;
-  exact = λ whole room. let e = exact-at q laws b lawful limits whole room n in (e .0, λ d. same ∙ e .1 d);
-  stays = stays-at q laws b lawful limits n;
-})
+every-history rank mono b lawful limits h question n past = (
+  history-accepted past,
+  record {
+    sound = λ w k. subst (λ ss. Begins ss (answer q w)) (sym same) (sound q laws b lawful limits n w k);
+    sound-done = λ d w k. sound-done-at q laws b lawful limits n d w k ∙ sym same;
+    frugal = frugal q laws b lawful limits n;
+    settled = λ d. settled-at q laws b lawful limits n d;
+    unsettled = λ room. unsettled-at q laws b lawful limits room n;
+    exact = λ whole room. let e = exact-at q laws b lawful limits whole room n in (e .0, λ d. same ∙ e .1 d);
+    stays = stays-at q laws b lawful limits n;
+  },
+)
   where
     q : Query
     q = bands rank question

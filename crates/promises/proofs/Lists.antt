@@ -3,12 +3,12 @@ use mathlib.Core.Path.{_≡_, refl, sym, _∙_, ap, ap₂, subst}
 use mathlib.Core.Bool.{Bool, true, false, cond}
 use mathlib.Core.Logic.{_⊎_, inl, inr, ⊎-elim}
 use mathlib.Core.List.{List, [], _∷_, _++_, map}
-use Prim.Native.Nat.{ℕ, zero, suc, _+_, _≤_, _<_}
+use Prim.Native.Nat.{_+_, _≤_, _<_}
 use native.Mathlib.Omega.{arith}
 use Rattle.std.specs.shelf.Lists.{All, kept-by}
 use Rattle.std.proofs.shelf.Tests.{cases-bool, both-ways}
 use Rattle.std.proofs.shelf.Elements.{all-kept-by, all-weaker, all-map, all-append}
-use lib.ListN.{length, take}
+use lib.ListN.{length}
 use Rattle.stations.specs.Counting.{bit, count, insert, sort}
 use Rattle.books.specs.Lists.{Pairwise, _∈_, here, there}
 

@@ -6,18 +6,17 @@ use mathlib.Core.List.{List, [], _∷_, _++_, map}
 use Prim.Native.Nat.{ℕ, zero, suc, _+_, _≤_, _<_}
 use native.Mathlib.Omega.{arith}
 use lib.Dec.{eqb}
-use lib.ListN.{length, getD, set}
+use lib.ListN.{length, set}
 use Rattle.std.specs.shelf.Lists.{All, joined}
 use Rattle.std.proofs.shelf.Lists.{length-set, getD-set-same, getD-set-other, length-append, getD-at}
 use Rattle.std.proofs.shelf.Elements.{all-weaker}
 use Rattle.std.proofs.shelf.Tests.{cases-eq, eq-eqb, eqb-true, ne-eqb}
 use Rattle.stations.specs.declared.station.Station.{Station}
-use Rattle.stations.specs.declared.region.Region.{Region}
 use Rattle.stations.specs.Beating.{_≼_}
 use Rattle.stations.specs.Counting.{bit, count}
 use Rattle.books.specs.declared.Child.{Child}
-use Rattle.books.specs.Lists.{_∈_, here, there}
-use Rattle.books.specs.Books.{Book, Slot, dead, leaf, node, slot, level, size, childrenOn, stationsOn, named, stations, names, numbered, IsLive, Inside, Nested, Fits, Filled, Lawful, worst}
+use Rattle.books.specs.Lists.{_∈_}
+use Rattle.books.specs.Books.{Book, Slot, dead, leaf, node, slot, level, size, childrenOn, stationsOn, named, stations, names, numbered, IsLive, Inside, Fits, Filled, Lawful, worst}
 use Rattle.promises.proofs.Lists.{all-at, all-from, in-map, of-map, nothing-in, only, count-append, count-mem, count-none}
 use Rattle.promises.proofs.Books.{of-joined, in-joined}
 
@@ -131,9 +130,6 @@ pub record Goes (b : Book) (h : Home) (s : Slot) : Type 0 where
   pub numbers-fresh : (n : ℕ) → count (numbered n) (stations b) + count (numbered n) (stationsOn s) ≤ 1
 
 module _ (b : Book) (h : Home) (s : Slot) (lawful : Lawful b) (o : Open b h) (go : Goes b h s) where
-  place : ℕ
-  place = h .child .page
-
   inside : h .child .page < length b
   inside = home-ok b lawful h (o .named) .inside
 
@@ -144,12 +140,12 @@ module _ (b : Book) (h : Home) (s : Slot) (lawful : Lawful b) (o : Open b h) (go
   old-fits : (p : ℕ) (c : Child) → c ∈ childrenOn (slot b p) → Fits (level (slot b p)) (c .bounds) (slot (set b (h .child .page) s) (c .page))
   old-fits p c m =
       written (λ r t. c .page ≡ r → Fits (level (slot b p)) (c .bounds) t) b (h .child .page) s inside
-          (λ e.
-          let a = at-home (slot b p) m in
-          let same : h ≡ home (a .0) c = only (houses (h .child .page)) (homes b) (omega (arith, count-homes (h .child .page) b, lawful .named-once (h .child .page))) (o .named) (eq-eqb _ _ refl) (in-joined homesOn refl b p (a .2)) (eq-eqb _ _ e) in
-          subst (λ l. Fits l (c .bounds) s) (sym (a .1)) (subst (λ (y : Home). Fits (suc (y .level)) (y .child .bounds) s) same (go .fits)))
-          (λ r n e. subst (λ i. Fits (level (slot b p)) (c .bounds) (slot b i)) e (all-at (λ c. Fits (level (slot b p)) (c .bounds) (slot b (c .page))) (lawful .fits p) m))
-          (c .page) refl
+      (λ e.
+      let a = at-home (slot b p) m in
+      let same : h ≡ home (a .0) c = only (houses (h .child .page)) (homes b) (omega (arith, count-homes (h .child .page) b, lawful .named-once (h .child .page))) (o .named) (eq-eqb _ _ refl) (in-joined homesOn refl b p (a .2)) (eq-eqb _ _ e) in
+      subst (λ l. Fits l (c .bounds) s) (sym (a .1)) (subst (λ (y : Home). Fits (suc (y .level)) (y .child .bounds) s) same (go .fits)))
+      (λ r n e. subst (λ i. Fits (level (slot b p)) (c .bounds) (slot b i)) e (all-at (λ c. Fits (level (slot b p)) (c .bounds) (slot b (c .page))) (lawful .fits p) m))
+      (c .page) refl
 
   new-fits : (c : Child) → c ∈ childrenOn s → Fits (level s) (c .bounds) (slot (set b (h .child .page) s) (c .page))
   new-fits c m =
@@ -255,18 +251,18 @@ pub node-lawful : (b : Book) (h : Home) (l : ℕ) → Lawful b → Open b h → 
 node-lawful b h l lawful o lvl =
     let ok = home-ok b lawful h (o .named) in
     placed (b ++ dead ∷ []) h (node l (last-child b h ∷ [])) (grown b lawful)
-        record { named = subst (λ x. h ∈ x) (sym (joined-grown homesOn refl b)) (o .named); dead = slot-grown b (h .child .page) ∙ o .dead }
-        record {
-          fits = (ap suc lvl, (record { above = omega arith; below = omega arith }, tt));
-          level = omega arith;
-          size = omega arith;
-          filled = omega arith;
-          after = ((ok .inside, omega (arith, length-append b (dead ∷ []))), tt);
-          unread = ((getD-at b dead [] dead (length b) refl, λ e. omega (arith, ok .inside)), tt);
-          ordered = (ok .ordered, tt);
-          boxes = (ok .box, tt);
-          measures = tt;
-          numbers = tt;
-          names-fresh = λ p. fresh-one (λ x. x .page) (last-child b h) (named (b ++ dead ∷ [])) (subst (λ x. count (names (length b)) x ≡ 0) (sym (joined-grown childrenOn refl b)) (unnamed b lawful (length b) (omega arith))) p (grown b lawful .named-once p);
-          numbers-fresh = λ n. omega (arith, grown b lawful .numbered-once n);
-        }
+    record { named = subst (λ x. h ∈ x) (sym (joined-grown homesOn refl b)) (o .named); dead = slot-grown b (h .child .page) ∙ o .dead }
+    record {
+      fits = (ap suc lvl, (record { above = omega arith; below = omega arith }, tt));
+      level = omega arith;
+      size = omega arith;
+      filled = omega arith;
+      after = ((ok .inside, omega (arith, length-append b (dead ∷ []))), tt);
+      unread = ((getD-at b dead [] dead (length b) refl, λ e. omega (arith, ok .inside)), tt);
+      ordered = (ok .ordered, tt);
+      boxes = (ok .box, tt);
+      measures = tt;
+      numbers = tt;
+      names-fresh = λ p. fresh-one (λ x. x .page) (last-child b h) (named (b ++ dead ∷ [])) (subst (λ x. count (names (length b)) x ≡ 0) (sym (joined-grown childrenOn refl b)) (unnamed b lawful (length b) (omega arith))) p (grown b lawful .named-once p);
+      numbers-fresh = λ n. omega (arith, grown b lawful .numbered-once n);
+    }

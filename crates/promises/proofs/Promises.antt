@@ -1,45 +1,44 @@
 -- The promises, from what is opened as far as a bound and from the row.
 use mathlib.Core.Path.{_≡_, refl, sym, _∙_, ap, subst}
-use mathlib.Core.Bool.{Bool, true, false, not}
-use mathlib.Core.Logic.{_⊎_, inl, inr, ⊎-elim}
-use mathlib.Core.List.{List, [], _∷_, _++_}
-use Prim.Native.Nat.{ℕ, zero, suc, _+_, _≤_, _<_}
+use mathlib.Core.Bool.{Bool, true, false}
+use mathlib.Core.Logic.{inl, inr, ⊎-elim}
+use mathlib.Core.List.{[], _++_}
+use Prim.Native.Nat.{ℕ, zero, suc, _≤_, _<_}
 use native.Mathlib.Omega.{arith}
-use lib.Dec.{ltb, leb}
+use lib.Dec.{ltb}
 use lib.ListN.{length, take}
 use Rattle.std.specs.declared.option.Option.{Option}
 use Rattle.std.specs.declared.option.Option.the-variants.{Some, None}
 use Rattle.std.specs.declared.result.Result.{Result}
 use Rattle.std.specs.declared.result.Result.the-variants.{Ok, Err}
-use Rattle.std.specs.shelf.Lists.{All, kept-by}
+use Rattle.std.specs.shelf.Lists.{All}
 use Rattle.std.proofs.shelf.Lists.{take-all}
-use Rattle.std.proofs.shelf.Tests.{cases-bool, both-ways, ltb-true, leb-true, le-ltb, lt-leb, not-true, not-from-false}
+use Rattle.std.proofs.shelf.Tests.{both-ways, ltb-true, le-ltb, lt-leb, not-true, not-from-false}
 use Rattle.stations.specs.declared.station.Station as stated
 use Rattle.stations.specs.declared.key.Key.{Key}
 use Rattle.stations.specs.declared.fault.Fault.{Fault}
 use Rattle.stations.specs.declared.fault.Code.the-variants.{DeadPage, WaitingFull, ListFull}
 use Rattle.stations.specs.Faults.{fault, refuseIf, orElse}
-use Rattle.stations.specs.Keys.{kindNumber, before}
-use Rattle.stations.specs.Counting.{count}
+use Rattle.stations.specs.Keys.{before}
 use Rattle.books.specs.declared.Child.{Child}
 use Rattle.books.specs.declared.Entry.{Entry}
-use Rattle.books.specs.declared.Entry.the-variants.{Page, Station}
-use Rattle.books.specs.Lists.{Pairwise, _∈_, here, there}
-use Rattle.books.specs.Books.{Book, Slot, dead, leaf, node, slot, named, childrenOn, IsLive, isDead, Lawful, Whole}
+use Rattle.books.specs.declared.Entry.the-variants.{Station}
+use Rattle.books.specs.Lists.{Pairwise, _∈_, here}
+use Rattle.books.specs.Books.{Book, dead, slot, named, childrenOn, IsLive, Lawful}
 use Rattle.promises.specs.Bounds.{Bound, all, below, upTo, within}
 use Rattle.promises.specs.Queries.{Query, Laws, stationKey, pageKey, field, answer}
-use Rattle.promises.specs.Opening.{calls, calledFor, opened, upToBound, listed}
+use Rattle.promises.specs.Opening.{calls, calledFor, opened, listed}
 use Rattle.promises.specs.Foundations.{Agree}
 use Rattle.promises.specs.Settling.{Keeps, NamedFrom, Settles}
 use Rattle.promises.specs.Waiting.{keyOf, waiting}
-use Rattle.promises.specs.Searching.{Limits, topKey, Ending, done, halted, haltOr, listedBound, openedBound, lastReply, replyAt, boundAt, row, openFault, haltAt, firstHalt, ending, handed, next, handedAfter, openedAfter, Within}
-use Rattle.promises.specs.Promises.{Begins, Sound, SoundDone, Frugal, Decides, Decisive, Exact}
+use Rattle.promises.specs.Searching.{Limits, topKey, Ending, done, halted, listedBound, openedBound, lastReply, boundAt, row, openFault, haltAt, firstHalt, ending, handed, next, handedAfter, openedAfter, Within}
+use Rattle.promises.specs.Promises.{Begins, Sound, SoundDone, Frugal, Decisive, Exact}
 use Rattle.promises.proofs.Lists.{all-at, all-from, of-kept, pairwise-kept, begins-kept, kept-none, kept-all, kept-kept, length-kept, count-less, count-all}
 use Rattle.promises.proofs.Keys.{before-same, within-before, within-upTo, kinds-either}
-use Rattle.promises.proofs.Books.{of-joined, shape}
+use Rattle.promises.proofs.Books.{dead-true, false-live, of-joined, shape}
 use Rattle.promises.proofs.Theory.{same-answers, in-opened, opened-all, opened-wider, l3}
 use Rattle.promises.proofs.Frugal.{holds, holds-many}
-use Rattle.promises.proofs.Rows.{not-after, top-first, dead-true, some-none, both-pass, one-fails, rising-answer, of-row, first-cases, HaltsAt, no-halt, past-top, at-top, live-opened, Hands, Ends, call-cases}
+use Rattle.promises.proofs.Rows.{not-after, top-first, some-none, one-fails, rising-answer, of-row, first-cases, HaltsAt, no-halt, past-top, at-top, live-opened, Hands, Ends, call-cases}
 
 -- what lies before the end was opened by then
 listed-opened : (e : Ending) (k : Key) → within (listedBound e) k ≡ true → within (openedBound e) k ≡ true
@@ -164,12 +163,7 @@ module _ (q : Query) (laws : Laws q) (b : Book) (lawful : Lawful b) where
     module _ (room : Within q b limits) where
       -- within the limits a live page opens
       opens : (p : ℕ) (u : Bound) → IsLive (slot b p) → length (waiting q b u) ≤ limits .mostWaiting → openFault q b limits p u ≡ None
-      opens p u l r = ap (λ x. orElse (refuseIf x (fault DeadPage p 0)) (refuseIf (ltb (limits .mostWaiting) (length (waiting q b u))) (fault WaitingFull p 0))) (alive (slot b p) l) ∙ ap (λ y. refuseIf y (fault WaitingFull p 0)) (le-ltb _ _ r)
-        where
-          alive : (s : Slot) → IsLive s → isDead s ≡ false
-          alive dead k = absurd k
-          alive (leaf ss) k = refl
-          alive (node m cs) k = refl
+      opens p u l r = ap (λ x. orElse (refuseIf x (fault DeadPage p 0)) (refuseIf (ltb (limits .mostWaiting) (length (waiting q b u))) (fault WaitingFull p 0))) (false-live (slot b p) l) ∙ ap (λ y. refuseIf y (fault WaitingFull p 0)) (le-ltb _ _ r)
 
       station-fits : (s : stated.Station) → s ∈ answer q b → haltAt q b limits (Station s) ≡ None
       station-fits s m = ap (λ y. refuseIf y (fault ListFull (s .number) 0)) (lt-leb _ _ (omega (arith, fewer-before s m, room .stations)))

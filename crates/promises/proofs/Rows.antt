@@ -3,38 +3,35 @@ use mathlib.Core.Path.{_≡_, refl, sym, _∙_, ap, subst}
 use mathlib.Core.Bool.{Bool, true, false, not, cond}
 use mathlib.Core.Logic.{_⊎_, inl, inr, ⊎-elim}
 use mathlib.Core.List.{List, [], _∷_, _++_, map}
-use Prim.Native.Nat.{ℕ, zero, suc, _+_, _≤_, _<_}
+use Prim.Native.Nat.{ℕ, zero, suc, _≤_}
 use native.Mathlib.Omega.{arith}
-use lib.Dec.{ltb, leb, eqb}
+use lib.Dec.{ltb}
 use lib.ListN.{length, take}
 use Rattle.std.specs.declared.option.Option.{Option}
 use Rattle.std.specs.declared.option.Option.the-variants.{Some, None}
-use Rattle.std.specs.declared.result.Result.{Result}
-use Rattle.std.specs.declared.result.Result.the-variants.{Ok, Err}
-use Rattle.std.specs.shelf.Lists.{All, kept-by}
+use Rattle.std.specs.declared.result.Result.the-variants.{Ok}
+use Rattle.std.specs.shelf.Lists.{All}
 use Rattle.std.proofs.shelf.Ways.{tells}
-use Rattle.std.proofs.shelf.Tests.{cases-bool, both-ways, ltb-true, ltb-false, le-ltb, lt-leb, not-true, not-from-true, not-from-false}
+use Rattle.std.proofs.shelf.Tests.{cases-bool, both-ways, not-from-true, not-from-false}
 use Rattle.std.proofs.shelf.Elements.{all-weaker}
 use Rattle.stations.specs.declared.station.Station as stated
 use Rattle.stations.specs.declared.key.Key.{Key}
 use Rattle.stations.specs.declared.fault.Fault.{Fault}
-use Rattle.stations.specs.declared.fault.Code.the-variants.{DeadPage, WaitingFull, ListFull}
-use Rattle.stations.specs.Faults.{fault, refuseIf, orElse}
+use Rattle.stations.specs.Faults.{refuseIf, orElse}
 use Rattle.stations.specs.Keys.{kindNumber, lex, before}
-use Rattle.stations.specs.Counting.{count, sort}
 use Rattle.books.specs.declared.Child.{Child}
 use Rattle.books.specs.declared.Entry.{Entry}
 use Rattle.books.specs.declared.Entry.the-variants.{Page, Station}
 use Rattle.books.specs.Lists.{Pairwise, _∈_, here, there}
-use Rattle.books.specs.Books.{Book, Slot, dead, leaf, node, slot, named, IsLive, isDead, Lawful}
-use Rattle.promises.specs.Bounds.{Bound, all, below, upTo, within}
+use Rattle.books.specs.Books.{Book, slot, named, IsLive, Lawful}
+use Rattle.promises.specs.Bounds.{Bound, below, upTo, within}
 use Rattle.promises.specs.Queries.{Query, Laws, stationKey, pageKey, field, answer}
-use Rattle.promises.specs.Opening.{calls, calledFor, opened, upToBound, listed}
-use Rattle.promises.specs.Waiting.{keyOf, waiting}
+use Rattle.promises.specs.Opening.{calls, calledFor, opened, upToBound}
+use Rattle.promises.specs.Waiting.{keyOf}
 use Rattle.promises.specs.Searching.{Limits, topKey, Ending, done, halted, haltOr, listedBound, openedBound, lastReply, replyAt, boundAt, row, openFault, haltAt, firstHalt, ending}
-use Rattle.promises.proofs.Lists.{all-at, all-from, in-map, of-map, nothing-in, pairwise-kept, pairwise-weaker, pairwise-mapped, pairwise-append, kept-none, in-sort, of-sort, rising-sort}
+use Rattle.promises.proofs.Lists.{all-at, in-map, of-map, nothing-in, pairwise-kept, pairwise-weaker, pairwise-mapped, pairwise-append, kept-none, in-sort, of-sort, rising-sort}
 use Rattle.promises.proofs.Keys.{before-trans, before-same, before-either, kinds-either}
-use Rattle.promises.proofs.Books.{in-left, in-right, of-append, shape}
+use Rattle.promises.proofs.Books.{live-false, in-left, in-right, of-append, shape}
 use Rattle.promises.proofs.Theory.{numbered, rising-sorted, opened-all}
 
 -- what comes before something does not come after it
@@ -50,16 +47,6 @@ ltb-least a = grind (arith, tells)
 -- nothing comes before the top
 pub top-first : (k : Key) → before k topKey ≡ false
 top-first k = lex-least (k .rank) _ (lex-least (k .sum) _ (lex-least (kindNumber (k .kind)) _ (ltb-least (k .number))))
-
-pub live-false : (s : Slot) → isDead s ≡ false → IsLive s
-live-false dead h = both-ways true h refl
-live-false (leaf ss) h = tt
-live-false (node l cs) h = tt
-
-pub dead-true : (s : Slot) → isDead s ≡ true → s ≡ dead
-dead-true dead h = refl
-dead-true (leaf ss) h = absurd (both-ways false refl h)
-dead-true (node l cs) h = absurd (both-ways false refl h)
 
 abbrev isNone : {A : Type 0} → Option A → Bool
 isNone None = true

@@ -1,33 +1,29 @@
 -- The place that a search has come to says what the next call gives.
 use mathlib.Core.Path.{_≡_, refl, sym, _∙_, ap, subst}
-use mathlib.Core.Bool.{Bool, true, false, not, cond}
-use mathlib.Core.Logic.{_⊎_, inl, inr, ⊎-elim}
+use mathlib.Core.Bool.{true, false, cond}
+use mathlib.Core.Logic.{⊎-elim}
 use mathlib.Core.List.{List, [], _∷_}
-use Prim.Native.Nat.{ℕ, zero, suc, _+_, _≤_, _<_}
+use Prim.Native.Nat.{ℕ, zero, suc, _≤_}
 use native.Mathlib.Omega.{arith}
 use lib.ListN.{length}
-use Rattle.std.specs.declared.option.Option.{Option}
-use Rattle.std.specs.declared.option.Option.the-variants.{Some, None}
-use Rattle.std.specs.declared.result.Result.the-variants.{Ok, Err}
-use Rattle.std.specs.shelf.Lists.{All, kept-by}
+use Rattle.std.specs.declared.option.Option.the-variants.{Some}
+use Rattle.std.specs.declared.result.Result.the-variants.{Ok}
 use Rattle.std.proofs.shelf.Tests.{cases-bool, not-from-false}
 use Rattle.std.proofs.shelf.Elements.{all-weaker}
 use Rattle.stations.specs.declared.station.Station as stated
 use Rattle.stations.specs.declared.key.Key.{Key}
-use Rattle.stations.specs.declared.fault.Fault.{Fault}
 use Rattle.stations.specs.Keys.{before}
-use Rattle.books.specs.declared.Entry.{Entry}
-use Rattle.books.specs.declared.Entry.the-variants.{Page, Station}
+use Rattle.books.specs.declared.Entry.the-variants.{Station}
 use Rattle.books.specs.Lists.{Pairwise, _∈_, here, there}
 use Rattle.books.specs.Books.{Book, Lawful}
-use Rattle.promises.specs.Bounds.{Bound, all, below, upTo, within}
+use Rattle.promises.specs.Bounds.{below, upTo, within}
 use Rattle.promises.specs.Queries.{Query, Laws, stationKey, answer}
 use Rattle.promises.specs.Opening.{opened, upToBound, listed}
 use Rattle.promises.specs.Waiting.{keyOf}
-use Rattle.promises.specs.Searching.{Limits, topKey, Ending, done, halted, listedBound, openedBound, lastReply, replyAt, boundAt, row, openFault, haltAt, firstHalt, ending, handed, next, openedAfter}
-use Rattle.promises.specs.Stepping.{Clear, Steps, Stepping}
+use Rattle.promises.specs.Searching.{Limits, topKey, Ending, done, halted, listedBound, openedBound, lastReply, replyAt, boundAt, row, firstHalt, ending, handed, next, openedAfter}
+use Rattle.promises.specs.Stepping.{Clear, Stepping}
 use Rattle.promises.proofs.Lists.{all-at, all-from, in-kept, pairwise-kept, nothing-in, kept-none, kept-all, kept-kept}
-use Rattle.promises.proofs.Keys.{before-same, within-before, within-upTo}
+use Rattle.promises.proofs.Keys.{before-same, within-before}
 use Rattle.promises.proofs.Rows.{not-after, top-first, some-none, rising-answer, rising-row, first-cases, HaltsAt, first-halt, no-halt, past-top, at-top}
 
 -- what a call gives, and how far pages are opened then

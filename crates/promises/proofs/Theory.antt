@@ -1,13 +1,13 @@
 -- Why the search is right, up to any bound on keys.
-use mathlib.Core.Path.{_≡_, refl, sym, _∙_, ap, subst}
-use mathlib.Core.Bool.{Bool, true, false, not, _&&_}
+use mathlib.Core.Path.{_≡_, refl, sym, ap, subst}
+use mathlib.Core.Bool.{Bool, true, false}
 use mathlib.Core.Logic.{_⊎_, inl, inr, ⊎-elim}
-use mathlib.Core.List.{List, [], _∷_, map}
-use Prim.Native.Nat.{ℕ, zero, suc, _+_, _≤_, _<_}
+use mathlib.Core.List.{List}
+use Prim.Native.Nat.{ℕ, zero, suc, _≤_, _<_}
 use native.Mathlib.Omega.{arith}
 use lib.Dec.{ltb}
 use Rattle.std.proofs.shelf.Ways.{tells}
-use Rattle.std.specs.shelf.Lists.{All, kept-by, joined}
+use Rattle.std.specs.shelf.Lists.{All}
 use Rattle.std.proofs.shelf.Tests.{cases-bool, both-ways, ltb-true, ltb-false, lt-ltb, and-parts, and-from}
 use Rattle.std.proofs.shelf.Elements.{all-map}
 use Rattle.stations.specs.declared.measures.Measures.{Measures}
@@ -17,17 +17,17 @@ use Rattle.stations.specs.declared.key.Kind.{Kind}
 use Rattle.stations.specs.declared.key.Kind.the-variants.{Page, Station}
 use Rattle.stations.specs.Beating.{_≼_}
 use Rattle.stations.specs.Keys.{before}
-use Rattle.stations.specs.Counting.{count, sort}
+use Rattle.stations.specs.Counting.{count}
 use Rattle.books.specs.declared.Child.{Child}
 use Rattle.books.specs.Lists.{Pairwise, _∈_, here, there}
-use Rattle.books.specs.Books.{Book, slot, stationsOn, childrenOn, stations, named, Lawful, Inside, Nested}
+use Rattle.books.specs.Books.{Book, slot, stationsOn, childrenOn, stations, named, Inside, Nested}
 use Rattle.promises.specs.Bounds.{Bound, below, within}
 use Rattle.promises.specs.Queries.{Query, Laws, keyAt, stationKey, pageKey, field, overs, few, chosen, sorted, answer}
 use Rattle.promises.specs.Opening.{calls, calledFor, opened, upToBound}
 use Rattle.promises.specs.Foundations.{Agree, Counting, Listed, Upward, Standing, Onward, SameAnswers}
 use Rattle.promises.proofs.Lists.{all-at, all-from, in-map, in-kept, of-kept, pairwise-kept, pairwise-weaker, count-le, count-less, Lost, kept-or-lost, count-kept-le, count-into, count-sort, in-sort, of-sort, rising-sort, rising-same}
 use Rattle.promises.proofs.Keys.{before-trans, before-same, before-either, within-before}
-use Rattle.promises.proofs.Books.{of-joined, in-joined, Boxed, Shape, shape}
+use Rattle.promises.proofs.Books.{of-joined, in-joined, Shape, shape}
 
 abbrev pub Numbered : List stated.Station → Type 0
 Numbered = Pairwise (λ s t. s .number ≡ t .number → ⊥)

@@ -18,7 +18,6 @@ use Rattle.stations.specs.declared.fault.Fault.{Fault}
 use Rattle.stations.specs.declared.fault.Code.the-variants.{BandCount, DeadPage, WaitingFull, ListFull}
 use Rattle.stations.specs.Faults.{fault, placeless, numberOf}
 use Rattle.stations.specs.Questions.{questionFault}
-use Rattle.rankings.specs.declared.weights.Weights.{Weights}
 use Rattle.rankings.specs.Scores.{weightedSum}
 use Rattle.books.specs.declared.Child.{Child}
 use Rattle.books.specs.Books.{Slot, dead, leaf, node, Book, worst}
@@ -30,23 +29,27 @@ use Rattle.promises.specs.Searching.{Limits, handed, next, openedAfter}
 abbrev pub point : ℕ → ℕ → Measures
 point a b = record { m1 = a; m2 = b; m3 = 0; m4 = 0 }
 
+-- a station with its number and such measures
 abbrev pub station : ℕ → ℕ → ℕ → Station
 station n a b = record { number = n; at = point a b }
 
+-- a box or a region, by its low and its high
 abbrev pub box : Measures → Measures → Region
 box low high = record { low = low; high = high }
 
+-- a page with its box
 abbrev pub child : ℕ → Region → Child
 child p b = record { page = p; bounds = b }
 
--- k of the stations anywhere
+-- the band of k, with every measure in play
 abbrev pub anywhere : ℕ → Question
 anywhere k = record { k = k; region = box (point 0 0) worst }
 
--- the weighted sum with this weight for each measure, 0 or 1
+-- the weighted sum with weights 1
 abbrev pub ones : Measures → ℕ
 ones = weightedSum record { w1 = 1; w2 = 1; w3 = 1; w4 = 1; small = (lit≤ tt, lit≤ tt, lit≤ tt, lit≤ tt) }
 
+-- and with weights 0
 abbrev pub zeros : Measures → ℕ
 zeros = weightedSum record { w1 = 0; w2 = 0; w3 = 0; w4 = 0; small = (lit≤ tt, lit≤ tt, lit≤ tt, lit≤ tt) }
 
@@ -67,10 +70,11 @@ pub record Holds (c : Case) : Type 0 where
   pub pages : openedAfter (bands (c .rank) (c .question)) (c .book) (c .limits) (suc (length (c .numbers))) ≡ c .pages
   pub last : next (bands (c .rank) (c .question)) (c .book) (c .limits) (length (c .numbers)) ≡ c .last
 
+-- limits that no case but the last two comes to
 abbrev pub roomy : Limits
 roomy = record { mostWaiting = 64; mostListed = 64 }
 
--- weights 1 and room enough, with k of the stations anywhere
+-- a case with weights 1, every measure in play and room enough
 abbrev pub plain : ℕ → Book → List ℕ → List ℕ → Result (Option Station) Fault → Case
 plain k b numbers pages last = record { rank = ones; question = anywhere k; limits = roomy; book = b; numbers = numbers; pages = pages; last = last }
 
@@ -78,13 +82,15 @@ plain k b numbers pages last = record { rank = ones; question = anywhere k; limi
 abbrev pub pair : Region → Slot → Region → Slot → Book
 pair box1 page1 box2 page2 = node 0 (child 1 box1 ∷ child 2 box2 ∷ []) ∷ page1 ∷ page2 ∷ []
 
--- twelve stations of which none beats another, and a thirteenth that each of them beats
+-- twelve stations of which none beats another
 abbrev pub twelve : Slot
 twelve = leaf (map (λ i. station i i (13 - i)) (1 ∷ 2 ∷ 3 ∷ 4 ∷ 5 ∷ 6 ∷ 7 ∷ 8 ∷ 9 ∷ 10 ∷ 11 ∷ 12 ∷ []))
 
+-- the page of the thirteenth
 abbrev pub thirteenth : Slot
 thirteenth = leaf (station 13 20 20 ∷ [])
 
+-- a top over both: each of the twelve beats the thirteenth
 abbrev pub thirteen : Slot → Slot → Book
 thirteen page1 page2 = pair (box (point 1 1) (point 12 12)) page1 (box (point 20 20) (point 20 20)) page2
 
@@ -104,6 +110,7 @@ clipped = pair (box (point 6 4) (point 6 4)) (leaf (station 1 6 4 ∷ [])) (box 
 abbrev pub fromSix : Question
 fromSix = record { k = 1; region = box (point 6 0) worst }
 
+-- the table
 abbrev pub cases : List Case
 cases =
     -- no station

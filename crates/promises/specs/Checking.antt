@@ -53,6 +53,7 @@ abbrev pub entryRules : Book → Bool
 entryRules b =
     once (λ c. c .page) (named b) && (every (λ c. atMost (c .bounds .low) (c .bounds .high) && atMost (c .bounds .high) worst) (named b) && (every (λ s. atMost (s .at) worst && leb 1 (s .number)) (stations b) && once (λ s. s .number) (stations b)))
 
+-- the whole test
 abbrev pub lawful : Book → Bool
 lawful b = everySlot (slotRules b) 0 b && entryRules b
 

@@ -62,6 +62,7 @@ handing ss (nexted (Err f)) = ss
 handing ss (stopped (Ok u)) = []
 handing ss (stopped (Err f)) = ss
 
+-- so at every call, in turn
 abbrev pub handedIn : List Station → List Event → List Station
 handedIn ss [] = ss
 handedIn ss (e ∷ es) = handedIn (handing ss e) es
@@ -72,11 +73,13 @@ pub data Phase : Type 0 where
   done : Phase
   halted : Fault → Phase
 
+-- what the last reply of `next` says of it
 abbrev pub phaseBy : Result (Option Station) Fault → Phase
 phaseBy (Ok (Some s)) = searching
 phaseBy (Ok None) = done
 phaseBy (Err f) = halted f
 
+-- after n calls of `next`
 abbrev pub phase : Query → Book → Limits → ℕ → Phase
 phase q b limits zero = searching
 phase q b limits (suc n) = phaseBy (next q b limits n)

@@ -4,11 +4,9 @@ use mathlib.Core.List.{List, [], _∷_, _++_, map}
 use Prim.Native.Nat.{ℕ, suc}
 use lib.Dec.{eqb, ltb}
 use Rattle.std.specs.shelf.Lists.{kept-by}
-use Rattle.stations.specs.declared.measures.Measures.{Measures}
 use Rattle.stations.specs.declared.station.Station as stated
 use Rattle.stations.specs.declared.key.Key.{Key}
 use Rattle.stations.specs.Counting.{count}
-use Rattle.books.specs.declared.Child.{Child}
 use Rattle.books.specs.declared.Entry.{Entry}
 use Rattle.books.specs.declared.Entry.the-variants.{Page, Station}
 use Rattle.books.specs.Books.{Slot, dead, leaf, node, Book}
@@ -17,6 +15,7 @@ use Rattle.promises.specs.Queries.{Query, stationKey, pageKey, few}
 use Rattle.promises.specs.Opening.{calls, calledFor, listed}
 
 module _ (q : Query) where
+  -- the key by which an entry is taken
   abbrev pub keyOf : Entry → Key
   keyOf (Page c) = pageKey q c
   keyOf (Station s) = stationKey q s
@@ -26,6 +25,7 @@ module _ (q : Query) where
   passes xs (Page c) = calls q xs c
   passes xs (Station s) = q .inPlay (s .at) && few q xs (s .at)
 
+-- what stands on a page
 abbrev pub entriesOn : Slot → List Entry
 entriesOn dead = []
 entriesOn (leaf ss) = map Station ss
@@ -55,5 +55,6 @@ module _ (q : Query) (b : Book) where
   abbrev pub waits : Bound → Place → Bool
   waits u e = passed u e && not (within u (keyOf q (e .entry)))
 
+  -- the entries that wait once the search has come as far as the bound
   abbrev pub waiting : Bound → List Entry
   waiting u = map (λ e. e .entry) (kept-by (waits u) (places 0 b))
