@@ -10,13 +10,17 @@ use lib.Dec.{eqb, leb}
 use lib.ListN.{length}
 use Rattle.std.specs.shelf.Lists.{All}
 use Rattle.std.proofs.shelf.Tests.{ltb-true, leb-true, eqb-true, and-parts, or-cases, cases-lt}
+use Rattle.stations.specs.declared.measures.Measures.{Measures}
 use Rattle.stations.specs.declared.region.Region.{Region}
-use Rattle.stations.specs.Beating.{_≼_}
+use Rattle.stations.specs.Beating.{Ordinary, _≼_, atMost}
 use Rattle.stations.specs.Counting.{count}
-use Rattle.books.specs.Books.{Book, Slot, dead, leaf, node, slot, level, size, childrenOn, stations, named, names, worst, IsLive, Inside, Nested, Fits, Filled, Lawful}
-use Rattle.promises.specs.Checking.{every, once, everySlot, fits, filled, reached, slotRules, entryRules, lawful, Checked}
+use Rattle.books.specs.Books.{Book, Slot, dead, leaf, node, slot, level, size, childrenOn, stations, named, names, IsLive, Inside, Nested, Fits, Filled, Lawful}
+use Rattle.promises.specs.Checking.{worst, every, once, everySlot, fits, filled, reached, slotRules, entryRules, lawful, Checked}
 use Rattle.promises.proofs.Lists.{all-at, count-some}
 use Rattle.promises.proofs.Bands.{at-most-le}
+
+ordinary : (p : Measures) → atMost p worst ≡ true → Ordinary p
+ordinary p h = let l = at-most-le p worst h in omega arith
 
 from-every : {A : Type 0} (t : A → Bool) (P : A → Type 0) → ((x : A) → t x ≡ true → P x) → (xs : List A) → every t xs ≡ true → All P xs
 from-every t P h [] e = tt
@@ -103,8 +107,8 @@ module _ (b : Book) (pass : lawful b ≡ true) where
         reached = λ p. at p .reached;
         named-once = once-sound (λ c. c .page) (named b) (e .0);
         ordered = from-every _ (λ c. (c .bounds .low) ≼ (c .bounds .high)) (λ c k. at-most-le _ _ (and-parts _ _ k .0)) (named b) (f .0);
-        boxes = from-every _ (λ c. (c .bounds .high) ≼ worst) (λ c k. at-most-le _ _ (and-parts _ _ k .1)) (named b) (f .0);
-        measures = from-every _ (λ s. (s .at) ≼ worst) (λ s k. at-most-le _ _ (and-parts _ _ k .0)) (stations b) (g .0);
+        boxes = from-every _ (λ c. Ordinary (c .bounds .high)) (λ c k. ordinary (c .bounds .high) (and-parts _ _ k .1)) (named b) (f .0);
+        measures = from-every _ (λ s. Ordinary (s .at)) (λ s k. ordinary (s .at) (and-parts _ _ k .0)) (stations b) (g .0);
         numbers = from-every _ (λ s. 1 ≤ s .number) (λ s k. leb-true _ _ (and-parts _ _ k .1)) (stations b) (g .0);
         numbered-once = once-sound (λ s. s .number) (stations b) (g .1);
       }

@@ -20,9 +20,9 @@ use Rattle.stations.specs.Faults.{fault, placeless, numberOf}
 use Rattle.stations.specs.Questions.{questionFault}
 use Rattle.rankings.specs.Scores.{weightedSum}
 use Rattle.books.specs.declared.Child.{Child}
-use Rattle.books.specs.Books.{Slot, dead, leaf, node, Book, worst}
+use Rattle.books.specs.Books.{Slot, dead, leaf, node, Book}
 use Rattle.promises.specs.Bands.{bands}
-use Rattle.promises.specs.Checking.{lawful}
+use Rattle.promises.specs.Checking.{worst, lawful}
 use Rattle.promises.specs.Searching.{Limits, handed, next, openedAfter}
 
 -- measures of which the last two are 0

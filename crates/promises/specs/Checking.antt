@@ -5,11 +5,16 @@ use mathlib.Core.List.{List, [], _∷_}
 use Prim.Native.Nat.{ℕ, suc}
 use lib.Dec.{eqb, leb, ltb}
 use lib.ListN.{length}
+use Rattle.stations.specs.declared.measures.Measures.{Measures}
 use Rattle.stations.specs.declared.region.Region.{Region}
 use Rattle.stations.specs.Beating.{atMost}
 use Rattle.stations.specs.Play.{inside}
 use Rattle.stations.specs.Counting.{count}
-use Rattle.books.specs.Books.{Book, Slot, dead, leaf, node, slot, level, size, childrenOn, stations, named, names, worst, Lawful}
+use Rattle.books.specs.Books.{Book, Slot, dead, leaf, node, slot, level, size, childrenOn, stations, named, names, Lawful}
+
+-- the largest measures that there are
+abbrev pub worst : Measures
+worst = record { m1 = 65535; m2 = 65535; m3 = 65535; m4 = 65535 }
 
 -- the test passes at each member
 abbrev pub every : {A : Type 0} → (A → Bool) → List A → Bool

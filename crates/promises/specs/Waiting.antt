@@ -9,7 +9,7 @@ use Rattle.stations.specs.declared.key.Key.{Key}
 use Rattle.stations.specs.Counting.{count}
 use Rattle.books.specs.declared.Entry.{Entry}
 use Rattle.books.specs.declared.Entry.the-variants.{Page, Station}
-use Rattle.books.specs.Books.{Slot, dead, leaf, node, Book}
+use Rattle.books.specs.Books.{Book, entriesOn}
 use Rattle.promises.specs.Bounds.{Bound, below, within}
 use Rattle.promises.specs.Queries.{Query, stationKey, pageKey, few}
 use Rattle.promises.specs.Opening.{calls, calledFor, listed}
@@ -24,12 +24,6 @@ module _ (q : Query) where
   abbrev pub passes : List stated.Station → Entry → Bool
   passes xs (Page c) = calls q xs c
   passes xs (Station s) = q .inPlay (s .at) && few q xs (s .at)
-
--- what stands on a page
-abbrev pub entriesOn : Slot → List Entry
-entriesOn dead = []
-entriesOn (leaf ss) = map Station ss
-entriesOn (node l cs) = map Page cs
 
 -- an entry with the page that it stands on
 pub record Place : Type 0 where
