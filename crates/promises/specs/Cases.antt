@@ -9,7 +9,6 @@ use Rattle.std.specs.declared.option.Option.{Option}
 use Rattle.std.specs.declared.option.Option.the-variants.{Some, None}
 use Rattle.std.specs.declared.result.Result.{Result}
 use Rattle.std.specs.declared.result.Result.the-variants.{Ok, Err}
-use Rattle.std.specs.shelf.Lists.{All}
 use Rattle.stations.specs.declared.measures.Measures.{Measures}
 use Rattle.stations.specs.declared.station.Station.{Station}
 use Rattle.stations.specs.declared.region.Region.{Region}
@@ -22,7 +21,7 @@ use Rattle.rankings.specs.Scores.{weightedSum}
 use Rattle.books.specs.declared.Child.{Child}
 use Rattle.books.specs.Books.{Slot, dead, leaf, node, Book}
 use Rattle.promises.specs.Bands.{bands}
-use Rattle.promises.specs.Checking.{worst, lawful}
+use Rattle.promises.specs.Checking.{worst, every, lawful}
 use Rattle.promises.specs.Searching.{Limits, handed, next, openedAfter}
 
 -- measures of which the last two are 0
@@ -53,38 +52,51 @@ ones = weightedSum record { w1 = 1; w2 = 1; w3 = 1; w4 = 1; small = (lit≤ tt, 
 abbrev pub zeros : Measures → ℕ
 zeros = weightedSum record { w1 = 0; w2 = 0; w3 = 0; w4 = 0; small = (lit≤ tt, lit≤ tt, lit≤ tt, lit≤ tt) }
 
--- a case, and what it gives in the end: the numbers handed out, the pages opened, and the last reply
+-- what a search comes to: the numbers handed out, the pages opened, and the last reply
+pub record Outcome : Type 0 where
+  pub numbers : List ℕ
+  pub pages : List ℕ
+  pub last : Result (Option Station) Fault
+
+-- a search, and what it should come to
 pub record Case : Type 0 where
   pub rank : Measures → ℕ
   pub question : Question
   pub limits : Limits
   pub book : Book
-  pub numbers : List ℕ
-  pub pages : List ℕ
-  pub last : Result (Option Station) Fault
+  pub gives : Outcome
 
--- the book is lawful, and the search of the case gives what the case says
-pub record Holds (c : Case) : Type 0 where
-  pub lawful : lawful (c .book) ≡ true
-  pub numbers : map (λ s. s .number) (handed (bands (c .rank) (c .question)) (c .book) (c .limits)) ≡ c .numbers
-  pub pages : openedAfter (bands (c .rank) (c .question)) (c .book) (c .limits) (suc (length (c .numbers))) ≡ c .pages
-  pub last : next (bands (c .rank) (c .question)) (c .book) (c .limits) (length (c .numbers)) ≡ c .last
+-- the outcome by the definitions, in as many calls as it takes
+abbrev pub outcome : (Measures → ℕ) → Question → Limits → Book → Outcome
+outcome rank question limits b =
+    let q = bands rank question in
+    let n = length (handed q b limits) in
+    record { numbers = map (λ s. s .number) (handed q b limits); pages = openedAfter q b limits (suc n); last = next q b limits n }
 
--- limits that no case but the last two comes to
-abbrev pub roomy : Limits
-roomy = record { mostWaiting = 64; mostListed = 64 }
+-- so many may wait, and so many be listed
+abbrev pub limited : ℕ → ℕ → Limits
+limited waiting listed = record { mostWaiting = waiting; mostListed = listed }
 
--- a case with weights 1, every measure in play and room enough
+-- a row of the table
+abbrev pub case : (Measures → ℕ) → Question → Limits → Book → List ℕ → List ℕ → Result (Option Station) Fault → Case
+case rank question limits b numbers pages last =
+    record { rank = rank; question = question; limits = limits; book = b; gives = record { numbers = numbers; pages = pages; last = last } }
+
+-- one with weights 1, every measure in play and room enough
 abbrev pub plain : ℕ → Book → List ℕ → List ℕ → Result (Option Station) Fault → Case
-plain k b numbers pages last = record { rank = ones; question = anywhere k; limits = roomy; book = b; numbers = numbers; pages = pages; last = last }
+plain k = case ones (anywhere k) (limited 64 64)
 
 -- a top with two pages
 abbrev pub pair : Region → Slot → Region → Slot → Book
 pair box1 page1 box2 page2 = node 0 (child 1 box1 ∷ child 2 box2 ∷ []) ∷ page1 ∷ page2 ∷ []
 
+-- the numbers of the twelve
+abbrev pub oneToTwelve : List ℕ
+oneToTwelve = 1 ∷ 2 ∷ 3 ∷ 4 ∷ 5 ∷ 6 ∷ 7 ∷ 8 ∷ 9 ∷ 10 ∷ 11 ∷ 12 ∷ []
+
 -- twelve stations of which none beats another
 abbrev pub twelve : Slot
-twelve = leaf (map (λ i. station i i (13 - i)) (1 ∷ 2 ∷ 3 ∷ 4 ∷ 5 ∷ 6 ∷ 7 ∷ 8 ∷ 9 ∷ 10 ∷ 11 ∷ 12 ∷ []))
+twelve = leaf (map (λ i. station i i (13 - i)) oneToTwelve)
 
 -- the page of the thirteenth
 abbrev pub thirteenth : Slot
@@ -110,14 +122,18 @@ clipped = pair (box (point 6 4) (point 6 4)) (leaf (station 1 6 4 ∷ [])) (box 
 abbrev pub fromSix : Question
 fromSix = record { k = 1; region = box (point 6 0) worst }
 
+-- of the second page's stations the first page's beats all but one
+abbrev pub screened : Book
+screened = pair (box (point 1 1) (point 1 1)) (leaf (station 1 1 1 ∷ [])) (box (point 0 5) (point 10 10)) (leaf (station 2 7 7 ∷ station 3 0 6 ∷ station 4 8 8 ∷ []))
+
 -- the table
 abbrev pub cases : List Case
 cases =
     -- no station
     plain 1 (leaf [] ∷ []) [] (0 ∷ []) (Ok None) ∷
     -- the page of the thirteenth stays shut, and so it does where it is dead
-    plain 1 (thirteen twelve thirteenth) (1 ∷ 2 ∷ 3 ∷ 4 ∷ 5 ∷ 6 ∷ 7 ∷ 8 ∷ 9 ∷ 10 ∷ 11 ∷ 12 ∷ []) (0 ∷ 1 ∷ []) (Ok None) ∷
-    plain 1 (thirteen twelve dead) (1 ∷ 2 ∷ 3 ∷ 4 ∷ 5 ∷ 6 ∷ 7 ∷ 8 ∷ 9 ∷ 10 ∷ 11 ∷ 12 ∷ []) (0 ∷ 1 ∷ []) (Ok None) ∷
+    plain 1 (thirteen twelve thirteenth) oneToTwelve (0 ∷ 1 ∷ []) (Ok None) ∷
+    plain 1 (thirteen twelve dead) oneToTwelve (0 ∷ 1 ∷ []) (Ok None) ∷
     -- the page of the twelve is dead
     plain 1 (thirteen dead thirteenth) [] (0 ∷ 1 ∷ []) (Err (fault DeadPage 1 0)) ∷
     -- the top is dead
@@ -127,18 +143,25 @@ cases =
     plain 2 three (1 ∷ 2 ∷ []) (0 ∷ []) (Ok None) ∷
     plain 3 three (1 ∷ 2 ∷ 3 ∷ []) (0 ∷ []) (Ok None) ∷
     -- all ranks are equal, and the sum decides
-    record { rank = zeros; question = anywhere 1; limits = roomy; book = two; numbers = 2 ∷ []; pages = 0 ∷ []; last = Ok None } ∷
-    record { rank = zeros; question = anywhere 2; limits = roomy; book = two; numbers = 2 ∷ 1 ∷ []; pages = 0 ∷ []; last = Ok None } ∷
+    case zeros (anywhere 1) (limited 64 64) two (2 ∷ []) (0 ∷ []) (Ok None) ∷
+    case zeros (anywhere 2) (limited 64 64) two (2 ∷ 1 ∷ []) (0 ∷ []) (Ok None) ∷
     -- the corner is beaten and the page stays shut; without the region it is opened
-    record { rank = ones; question = fromSix; limits = roomy; book = clipped; numbers = 1 ∷ []; pages = 0 ∷ 1 ∷ []; last = Ok None } ∷
+    case ones fromSix (limited 64 64) clipped (1 ∷ []) (0 ∷ 1 ∷ []) (Ok None) ∷
     plain 1 clipped (1 ∷ []) (0 ∷ 1 ∷ 2 ∷ []) (Ok None) ∷
-    -- two entries wait where one may; three stations come where two may be listed
-    record { rank = ones; question = anywhere 1; limits = record { mostWaiting = 1; mostListed = 2 }; book = clipped; numbers = []; pages = 0 ∷ []; last = Err (fault WaitingFull 0 0) } ∷
-    record { rank = ones; question = anywhere 3; limits = record { mostWaiting = 3; mostListed = 2 }; book = three; numbers = 1 ∷ 2 ∷ []; pages = 0 ∷ []; last = Err (fault ListFull 3 0) } ∷ []
+    -- two pages wait once the top is opened
+    case ones (anywhere 1) (limited 1 64) clipped [] (0 ∷ []) (Err (fault WaitingFull 0 0)) ∷
+    -- one of them and twelve stations wait once the other is opened
+    case ones (anywhere 1) (limited 12 64) (thirteen twelve thirteenth) [] (0 ∷ 1 ∷ []) (Err (fault WaitingFull 1 0)) ∷
+    case ones (anywhere 1) (limited 13 64) (thirteen twelve thirteenth) oneToTwelve (0 ∷ 1 ∷ []) (Ok None) ∷
+    -- of three stations one passes its first test and waits
+    case ones (anywhere 1) (limited 2 64) screened (1 ∷ 3 ∷ []) (0 ∷ 1 ∷ 2 ∷ []) (Ok None) ∷
+    -- the third station finds the list full
+    case ones (anywhere 3) (limited 64 2) three (1 ∷ 2 ∷ []) (0 ∷ []) (Err (fault ListFull 3 0)) ∷ []
 
--- every case gives what it says; the corner of the clipped page; k is 8 at most
+-- every book of the table is lawful and every search comes to what the table says; the corner of the clipped page; k is 8 at most
 pub record WorkedCases : Type 0 where
-  pub all : All Holds cases
+  pub books : every (λ c. lawful (c .book)) cases ≡ true
+  pub outcomes : map (λ c. outcome (c .rank) (c .question) (c .limits) (c .book)) cases ≡ map (λ c. c .gives) cases
   pub corner : bands ones fromSix .corner (box (point 0 5) (point 10 10)) ≡ point 6 5
   pub eight : questionFault (anywhere 8) ≡ None
   pub nine : questionFault (anywhere 9) ≡ Some (placeless BandCount)
