@@ -14,3 +14,4 @@ pub mod Stepping
 pub mod Cases
 pub mod Histories
 pub mod Checking
+pub mod Places

@@ -191,8 +191,8 @@ counting-stands q laws b c h = rw (count-sort _ (overs q c) (chosen q (field q b
 same-test : (m n k : ℕ) → m ≤ n → (k ≤ n → k ≤ m) → ltb m k ≡ ltb n k
 same-test m n k h f = grind (arith, tells)
 
-pub listed : Listed
-listed q laws b c i n =
+pub listed-tests : Listed
+listed-tests q laws b c i n =
     same-test _ _ _ (omega (arith, count-kept-le p w (answer q b), s, count-kept-le p (λ s. few q (field q b) (s .at)) (field q b))) (λ h. ⊎-elim (λ l. omega (arith, l, counting-stands q laws b c h)) (λ l. absurd (both-ways _ (l .3) (laws .over-key (l .0 .at) c (l .2) Station (l .0 .number) i n))) (kept-or-lost p w (answer q b)))
   where
     p : stated.Station → Bool

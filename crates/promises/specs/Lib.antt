@@ -12,3 +12,4 @@ pub mod Stepping
 pub mod Checking
 pub mod Cases
 pub mod Histories
+pub mod Turning

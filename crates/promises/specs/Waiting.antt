@@ -4,6 +4,7 @@ use mathlib.Core.List.{List, [], _∷_, _++_, map}
 use Prim.Native.Nat.{ℕ, suc}
 use lib.Dec.{eqb, ltb}
 use Rattle.std.specs.shelf.Lists.{kept-by}
+use Rattle.stations.specs.declared.measures.Measures.{Measures}
 use Rattle.stations.specs.declared.station.Station as stated
 use Rattle.stations.specs.declared.key.Key.{Key}
 use Rattle.stations.specs.Counting.{count}
@@ -12,7 +13,7 @@ use Rattle.books.specs.declared.Entry.the-variants.{Page, Station}
 use Rattle.books.specs.Books.{Book, entriesOn}
 use Rattle.promises.specs.Bounds.{Bound, below, within}
 use Rattle.promises.specs.Queries.{Query, stationKey, pageKey, few}
-use Rattle.promises.specs.Opening.{calls, calledFor, listed}
+use Rattle.promises.specs.Opening.{calledFor, listed}
 
 module _ (q : Query) where
   -- the key by which an entry is taken
@@ -20,10 +21,19 @@ module _ (q : Query) where
   keyOf (Page c) = pageKey q c
   keyOf (Station s) = stationKey q s
 
-  -- not set aside while these stations are listed: it is in play, and fewer than k of them are over it
+  -- the measures that stations are held against: a page's corner, or the station's own
+  abbrev pub measuresOf : Entry → Measures
+  measuresOf (Page c) = q .corner (c .bounds)
+  measuresOf (Station s) = s .at
+
+  -- a page with a corner, or a station in play
+  abbrev pub counts : Entry → Bool
+  counts (Page c) = q .cornered (c .bounds)
+  counts (Station s) = q .inPlay (s .at)
+
+  -- not set aside while these stations are listed: it counts, and fewer than k of them are over it
   abbrev pub passes : List stated.Station → Entry → Bool
-  passes xs (Page c) = calls q xs c
-  passes xs (Station s) = q .inPlay (s .at) && few q xs (s .at)
+  passes xs e = counts e && few q xs (measuresOf e)
 
 -- an entry with the page that it stands on
 pub record Place : Type 0 where
