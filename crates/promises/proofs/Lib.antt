@@ -15,3 +15,5 @@ pub mod Cases
 pub mod Histories
 pub mod Checking
 pub mod Places
+pub mod Turns
+pub mod Doors
