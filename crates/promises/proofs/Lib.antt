@@ -17,3 +17,4 @@ pub mod Checking
 pub mod Places
 pub mod Turns
 pub mod Doors
+pub mod Turning

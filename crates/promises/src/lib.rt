@@ -4,6 +4,7 @@ ghost use Rattle.promises.specs.Cases.{WorkedCases};
 ghost use Rattle.promises.specs.Checking.{Checked};
 ghost use Rattle.promises.specs.Filling.{Fillable};
 ghost use Rattle.promises.specs.Foundations.{Counting, Listed, Upward, Standing, Onward, SameAnswers};
+ghost use Rattle.promises.specs.Turning.{Turning};
 ghost use Rattle.promises.specs.Stepping.{Stepping};
 ghost use Rattle.promises.specs.Histories.{EveryHistory};
 ghost use Rattle.promises.specs.Promises.{Sound, SoundDone, Frugal, Decisive, Exact};
@@ -112,6 +113,12 @@ pub fn promises_hold_after_any_history() -> u8
 
 pub fn tested_books_are_lawful() -> u8
     ensures { λ _. ⌜ Checked ⌝ }
+{
+    0
+}
+
+pub fn least_entries_lead_along_the_row() -> u8
+    ensures { λ _. ⌜ Turning ⌝ }
 {
     0
 }
