@@ -16,5 +16,5 @@ pub mod Histories
 pub mod Checking
 pub mod Places
 pub mod Turns
-pub mod Doors
+pub mod PageTurns
 pub mod Turning

@@ -1,19 +1,19 @@
 -- The turns of a search, on the row.
 use mathlib.Core.Path.{_≡_, refl, sym, _∙_, ap, subst}
-use mathlib.Core.Bool.{Bool, true, false, not, cond, _&&_, _||_}
-use mathlib.Core.Logic.{_⊎_, inl, inr, ⊎-elim}
-use mathlib.Core.List.{List, [], _∷_, _++_, map}
-use Prim.Native.Nat.{ℕ, suc, _+_}
+use mathlib.Core.Bool.{Bool, true, false, _&&_, _||_}
+use mathlib.Core.Logic.{⊎-elim}
+use mathlib.Core.List.{List, [], _∷_, _++_}
+use Prim.Native.Nat.{ℕ, suc}
 use native.Mathlib.Omega.{arith}
-use lib.Dec.{eqb, ltb}
+use lib.Dec.{eqb}
 use lib.ListN.{length}
-use Rattle.std.specs.shelf.Lists.{All, kept-by}
-use Rattle.std.proofs.shelf.Tests.{both-ways, not-from-true, not-from-false}
+use Rattle.std.specs.shelf.Lists.{kept-by}
+use Rattle.std.proofs.shelf.Tests.{both-ways, not-from-true}
 use Rattle.std.proofs.shelf.Elements.{all-weaker}
 use Rattle.stations.specs.declared.station.Station as stated
 use Rattle.stations.specs.declared.key.Key.{Key}
 use Rattle.stations.specs.Keys.{before}
-use Rattle.stations.specs.Counting.{bit, count}
+use Rattle.stations.specs.Counting.{count}
 use Rattle.books.specs.declared.Child.{Child}
 use Rattle.books.specs.declared.Entry.{Entry}
 use Rattle.books.specs.declared.Entry.the-variants.{Page, Station}
@@ -24,15 +24,15 @@ use Rattle.promises.specs.Queries.{Query, Laws, stationKey, pageKey, answer}
 use Rattle.promises.specs.Opening.{calledFor, opened, upToBound, listed}
 use Rattle.promises.specs.Waiting.{keyOf, passes, Place, places, some, waits, waiting}
 use Rattle.promises.specs.Searching.{topKey, row}
-use Rattle.promises.specs.Turning.{Same, Least, Turns, Turned, Turning}
-use Rattle.promises.proofs.Lists.{all-at, in-map, of-map, count-append, kept-none, nothing-in}
+use Rattle.promises.specs.Turning.{Same, Least, Turns, Turning}
+use Rattle.promises.proofs.Lists.{all-at, in-map, of-map, count-append, kept-none}
 use Rattle.promises.proofs.Keys.{before-same}
 use Rattle.promises.proofs.Books.{in-joined}
 use Rattle.promises.proofs.Rows.{not-after, top-first, rising-answer, page-in-row, station-in-row, of-row}
 use Rattle.promises.proofs.Places.{count-kept, count-same, count-map, of-some, of-children, of-stations, at, count-at, same-in}
 use Rattle.promises.proofs.Turns as turns
 use Rattle.promises.proofs.Turns.{false-from, W, Wanted, called-wanted, answer-wanted, wanted-called, wanted-answer, pages-done, stations-done, listed-same, opened-same, standing-at, on, saw, saw-parts, pages-below, stations-below, listed-below, pages-up, stations-up, is-child, is-station}
-use Rattle.promises.proofs.Doors as doors
+use Rattle.promises.proofs.PageTurns as page-turns
 
 kinds : {P : Type 0} {s : stated.Station} {c : Child} → Station s ≡ Page c → P
 kinds h = let z : _≡_ {A = ℕ} 0 1 = cc in absurd (omega arith)
@@ -153,7 +153,7 @@ module _ (q : Query) (laws : Laws q) (b : Book) (lawful : Lawful b) where
         ∙ ap (λ ss. ss ++ s ∷ []) (sym (listed-below q laws b lawful u x member first ∙ ap (λ f. listed q b (below (keyOf q f))) i))
 
     opens : (c : Child) → e ≡ Page c → e ∈ row q b → length (opened q b (upTo κ)) ≡ suc (length (opened q b u))
-    opens c i m = ap (λ f. length (opened q b (upTo (keyOf q f)))) i ∙ doors.more-opened q laws b lawful u x member first c i (row-called (subst (λ f. f ∈ row q b) i m)) ∙ omega arith
+    opens c i m = ap (λ f. length (opened q b (upTo (keyOf q f)))) i ∙ page-turns.more-opened q laws b lawful u x member first c i (row-called (subst (λ f. f ∈ row q b) i m)) ∙ omega arith
 
     comes : (c : Child) → e ≡ Page c → e ∈ row q b → Same (waiting q b (upTo κ)) (kept-by (passes q (listed q b u)) (entriesOn (slot b (c .page))) ++ rest)
     comes c i m t =
@@ -165,7 +165,7 @@ module _ (q : Query) (laws : Laws q) (b : Book) (lawful : Lawful b) where
           least .same t,
           count-waits t u,
           count-waits t (upTo (pageKey q c)),
-          doors.comes q laws b lawful u x member first c i (row-called (subst (λ f. f ∈ row q b) i m)) t,
+          page-turns.comes q laws b lawful u x member first c i (row-called (subst (λ f. f ∈ row q b) i m)) t,
           count-kept t (passes q (listed q b u)) (entriesOn (slot b (c .page))),
           count-append t fresh rest,
         )
@@ -190,9 +190,9 @@ module _ (q : Query) (laws : Laws q) (b : Book) (lawful : Lawful b) where
   ended u h f m =
       let nothing : (y : Place) → y ∈ W q laws b lawful u → within all (keyOf q (y .entry)) ≡ true → ⊥ = λ y n _. none-in (in-map (λ x. x .entry) n) h in
       ⊎-elim
-          (λ r. subst (λ f. within u (keyOf q f) ≡ true) (sym (r .2)) (pages-done q laws b lawful u all nothing (r .0) (r .1) refl))
-          (λ r. subst (λ f. within u (keyOf q f) ≡ true) (sym (r .2)) (stations-done q laws b lawful u all nothing (r .0) (r .1) refl))
-          (of-row q laws b lawful m)
+      (λ r. subst (λ f. within u (keyOf q f) ≡ true) (sym (r .2)) (pages-done q laws b lawful u all nothing (r .0) (r .1) refl))
+      (λ r. subst (λ f. within u (keyOf q f) ≡ true) (sym (r .2)) (stations-done q laws b lawful u all nothing (r .0) (r .1) refl))
+      (of-row q laws b lawful m)
 
 pub turning : Turning
 turning q laws b lawful = record { top = top-same q laws b lawful; turns = turned q laws b lawful; ends = ended q laws b lawful }

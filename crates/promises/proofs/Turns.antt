@@ -2,36 +2,33 @@
 use mathlib.Core.Path.{_≡_, refl, sym, _∙_, ap, subst}
 use mathlib.Core.Bool.{Bool, true, false, not, _&&_, _||_}
 use mathlib.Core.Logic.{_⊎_, inl, inr, ⊎-elim}
-use mathlib.Core.List.{List, [], _∷_, _++_, map}
-use Prim.Native.Nat.{ℕ, suc, _+_, _≤_, _<_}
+use mathlib.Core.List.{List, [], _∷_, map}
+use Prim.Native.Nat.{ℕ, _+_}
 use native.Mathlib.Omega.{arith}
 use native.Mathlib.Nat.{zero-add}
 use lib.Dec.{eqb, ltb}
-use lib.ListN.{length, length-map}
-use Rattle.std.specs.shelf.Lists.{All, kept-by}
-use Rattle.std.proofs.shelf.Tests.{cases-bool, cases-eq, both-ways, and-parts, and-from, and-left, and-right, or-left, or-right, or-cases, or-from, not-true, not-from-true, not-from-false, eqb-true, eqb-false, eq-eqb, ne-eqb, lt-ltb, ltb-true}
+use Rattle.std.specs.shelf.Lists.{kept-by}
+use Rattle.std.proofs.shelf.Tests.{cases-bool, both-ways, and-parts, and-from, and-left, and-right, or-left, or-right, or-cases, not-true, not-from-true, not-from-false, eqb-true, eq-eqb, lt-ltb, ltb-true}
 use Rattle.stations.specs.declared.measures.Measures.{Measures}
 use Rattle.stations.specs.declared.station.Station as stated
 use Rattle.stations.specs.declared.key.Key.{Key}
 use Rattle.stations.specs.declared.key.Kind.the-variants as kind
-use Rattle.stations.specs.Keys.{kindNumber, before}
+use Rattle.stations.specs.Keys.{before}
 use Rattle.stations.specs.Counting.{bit, count}
 use Rattle.books.specs.declared.Child.{Child}
 use Rattle.books.specs.declared.Entry.{Entry}
 use Rattle.books.specs.declared.Entry.the-variants.{Page, Station}
 use Rattle.books.specs.Lists.{Pairwise, _∈_, here, there}
-use Rattle.books.specs.Books.{Book, slot, level, stationsOn, childrenOn, entriesOn, stations, named, Fits, Lawful}
-use Rattle.promises.specs.Bounds.{Bound, all, below, upTo, within}
+use Rattle.books.specs.Books.{Book, slot, childrenOn, entriesOn, stations, named, Lawful}
+use Rattle.promises.specs.Bounds.{Bound, below, upTo, within}
 use Rattle.promises.specs.Queries.{Query, Laws, stationKey, pageKey, field, overs, few, chosen, answer}
 use Rattle.promises.specs.Opening.{calls, calledFor, opened, listed}
 use Rattle.promises.specs.Waiting.{keyOf, measuresOf, counts, passes, Place, places, some, passed, waits, waiting}
-use Rattle.promises.specs.Searching.{topKey, row}
-use Rattle.promises.specs.Turning.{Same, Least, Turns, Turned, Turning}
-use Rattle.promises.proofs.Lists.{all-at, all-from, in-map, of-map, in-kept, of-kept, in-sort, of-sort, count-kept-le, count-sort, count-append, pairwise-kept, kept-none, length-kept, nothing-in}
+use Rattle.promises.proofs.Lists.{all-at, of-map, in-kept, of-kept, in-sort, of-sort, count-kept-le, count-sort}
 use Rattle.promises.proofs.Keys.{before-trans, before-same, before-total, within-before}
-use Rattle.promises.proofs.Books.{of-joined, in-joined, shape, fits-station, fits-child}
+use Rattle.promises.proofs.Books.{of-joined, shape}
 use Rattle.promises.proofs.Theory.{listed-tests, upward, standing, onward}
-use Rattle.promises.proofs.Places.{pick, kept-same, count-kept, count-same, count-map, some-from, of-some, in-children, in-stations, of-children, of-stations, at, in-places, of-places, count-at, count-one-less, Differ, differ, same-in}
+use Rattle.promises.proofs.Places.{pick, kept-same, count-kept, count-same, count-map, some-from, of-some, in-children, in-stations, at, in-places, of-places, count-one-less, Differ, differ}
 
 pub same-bool : (s t : Bool) → (s ≡ true → t ≡ true) → (t ≡ true → s ≡ true) → s ≡ t
 same-bool true t f g = sym (f refl)
@@ -235,4 +232,4 @@ module _ (q : Query) (laws : Laws q) (b : Book) (lawful : Lawful b) where
     pub leaves : ((c : Child) → c ∈ calledFor q b → pageKey q c ≡ κ → ⊥) → (t : Place → Bool) → count (λ y. waits q b u y && t y) (places 0 b) ≡ bit (t x) + count (λ y. waits q b (upTo κ) y && t y) (places 0 b)
     leaves f t =
         count-one-less (Differ q) (waits q b u) (waits q b (upTo κ)) t apart on (of-kept (waits q b u) (places 0 b) member .1) (and-right _ _ (not-from-true _ out-of-up)) (λ y m d.
-            waits-up y m (λ e. ⊎-elim (λ g. g (sym e)) (λ g. g e) d) (passed-same u (upTo κ) y (λ c n _. pages-up c n (f c n))))
+        waits-up y m (λ e. ⊎-elim (λ g. g (sym e)) (λ g. g e) d) (passed-same u (upTo κ) y (λ c n _. pages-up c n (f c n))))

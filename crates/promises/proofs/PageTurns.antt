@@ -1,38 +1,31 @@
 -- A turn at a page called for: what its opening adds.
 use mathlib.Core.Path.{_≡_, refl, sym, _∙_, ap, subst}
-use mathlib.Core.Bool.{Bool, true, false, not, _&&_, _||_}
-use mathlib.Core.Logic.{_⊎_, inl, inr, ⊎-elim}
-use mathlib.Core.List.{List, [], _∷_, _++_, map}
-use Prim.Native.Nat.{ℕ, suc, _+_, _≤_, _<_}
+use mathlib.Core.Bool.{Bool, true, false, not, _&&_}
+use mathlib.Core.Logic.{_⊎_, ⊎-elim}
+use mathlib.Core.List.{List, [], _∷_}
+use Prim.Native.Nat.{ℕ, _+_, _<_}
 use native.Mathlib.Omega.{arith}
 use native.Mathlib.Nat.{zero-add}
-use lib.Dec.{eqb, ltb}
+use lib.Dec.{eqb}
 use lib.ListN.{length, length-map}
-use Rattle.std.specs.shelf.Lists.{All, kept-by}
-use Rattle.std.proofs.shelf.Tests.{cases-bool, cases-eq, both-ways, and-parts, and-from, and-left, and-right, or-left, or-right, or-cases, or-from, not-true, not-from-true, not-from-false, eqb-true, eqb-false, eq-eqb, ne-eqb, lt-ltb, ltb-true}
-use Rattle.stations.specs.declared.measures.Measures.{Measures}
-use Rattle.stations.specs.declared.station.Station as stated
-use Rattle.stations.specs.declared.key.Key.{Key}
-use Rattle.stations.specs.declared.key.Kind.the-variants as kind
-use Rattle.stations.specs.Keys.{kindNumber, before}
+use Rattle.std.specs.shelf.Lists.{kept-by}
+use Rattle.std.proofs.shelf.Tests.{cases-bool, both-ways, and-parts, and-from, and-left, and-right, or-right, not-from-true, not-from-false, eqb-true, eqb-false, eq-eqb}
+use Rattle.stations.specs.Keys.{before}
 use Rattle.stations.specs.Counting.{bit, count}
 use Rattle.books.specs.declared.Child.{Child}
 use Rattle.books.specs.declared.Entry.{Entry}
 use Rattle.books.specs.declared.Entry.the-variants.{Page, Station}
-use Rattle.books.specs.Lists.{Pairwise, _∈_, here, there}
-use Rattle.books.specs.Books.{Book, slot, level, stationsOn, childrenOn, entriesOn, stations, named, Fits, Lawful}
-use Rattle.promises.specs.Bounds.{Bound, all, below, upTo, within}
-use Rattle.promises.specs.Queries.{Query, Laws, stationKey, pageKey, field, overs, few, chosen, answer}
+use Rattle.books.specs.Lists.{_∈_}
+use Rattle.books.specs.Books.{Book, slot, level, childrenOn, entriesOn, named, Fits, Lawful}
+use Rattle.promises.specs.Bounds.{Bound, below, upTo, within}
+use Rattle.promises.specs.Queries.{Query, Laws, pageKey, field}
 use Rattle.promises.specs.Opening.{calls, calledFor, opened, listed}
-use Rattle.promises.specs.Waiting.{keyOf, measuresOf, counts, passes, Place, places, some, passed, waits, waiting}
-use Rattle.promises.specs.Searching.{topKey, row}
-use Rattle.promises.specs.Turning.{Same, Least, Turns, Turned, Turning}
-use Rattle.promises.proofs.Lists.{all-at, all-from, in-map, of-map, in-kept, of-kept, in-sort, of-sort, count-kept-le, count-sort, count-append, pairwise-kept, kept-none, length-kept, nothing-in}
-use Rattle.promises.proofs.Keys.{before-trans, before-same, before-total, within-before}
-use Rattle.promises.proofs.Books.{of-joined, in-joined, shape, fits-station, fits-child}
-use Rattle.promises.proofs.Theory.{listed-tests, upward, standing, onward}
-use Rattle.promises.proofs.Places.{pick, kept-same, count-kept, count-same, count-map, some-from, of-some, in-children, in-stations, of-children, of-stations, at, in-places, of-places, count-at, count-one-less, Differ, differ, same-in}
-use Rattle.promises.proofs.Turns.{same-bool, false-from, W, apart, stood, standing-at, one-child, saw, saw-parts, passed-parts, passes-in, passed-same, on, was, outside, κ, pages-up, is-child, listed-below, waits-up, out-of-up}
+use Rattle.promises.specs.Waiting.{keyOf, counts, passes, Place, places, some, passed, waits}
+use Rattle.promises.proofs.Lists.{all-at, of-kept, pairwise-kept, length-kept}
+use Rattle.promises.proofs.Keys.{before-same}
+use Rattle.promises.proofs.Books.{shape, fits-station, fits-child}
+use Rattle.promises.proofs.Places.{count-same, some-from, of-children, of-stations, at, count-at, count-one-less, Differ}
+use Rattle.promises.proofs.Turns.{same-bool, false-from, W, apart, standing-at, one-child, saw, passed-parts, passes-in, passed-same, on, outside, pages-up, is-child, listed-below, waits-up, out-of-up}
 
 count-split : {A : Type 0} (a e t : A → Bool) (xs : List A) → count (λ y. a y && t y) xs ≡ count (λ y. (a y && not (e y)) && t y) xs + count (λ y. e y && (a y && t y)) xs
 count-split a e t [] = refl
