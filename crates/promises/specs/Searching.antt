@@ -1,5 +1,4 @@
 -- The law of a whole search, said from the book alone: what it meets, where it ends, and what each call of `next` gives.
-use mathlib.Core.Path.{_≡_}
 use mathlib.Core.List.{List, [], _∷_, _++_, map}
 use Prim.Native.Nat.{ℕ, zero, suc, _≤_}
 use lib.Dec.{ltb, leb}
