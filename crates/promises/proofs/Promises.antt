@@ -1,7 +1,7 @@
 -- The promises, from what is opened as far as a bound and from the row.
 use mathlib.Core.Path.{_≡_, refl, sym, _∙_, ap, subst}
 use mathlib.Core.Bool.{Bool, true, false}
-use mathlib.Core.Logic.{inl, inr, ⊎-elim}
+use mathlib.Core.Logic.{_⊎_, inl, inr, ⊎-elim}
 use mathlib.Core.List.{[], _++_}
 use Prim.Native.Nat.{ℕ, zero, suc, _≤_, _<_}
 use native.Mathlib.Omega.{arith}
@@ -31,14 +31,14 @@ use Rattle.promises.specs.Opening.{calls, calledFor, opened, listed}
 use Rattle.promises.specs.Foundations.{Agree}
 use Rattle.promises.specs.Settling.{Keeps, NamedFrom, Settles}
 use Rattle.promises.specs.Waiting.{keyOf, waiting}
-use Rattle.promises.specs.Searching.{Limits, topKey, Ending, done, halted, listedBound, openedBound, lastReply, boundAt, row, openFault, haltAt, firstHalt, ending, handed, next, handedAfter, openedAfter, Within}
+use Rattle.promises.specs.Searching.{Limits, topKey, Ending, done, halted, listedBound, openedBound, lastReply, boundAt, row, openFault, haltAt, firstHalt, ending, handed, next, handedAfter, openedAfter, Unhindered, Within}
 use Rattle.promises.specs.Promises.{Begins, Sound, SoundDone, Frugal, Decisive, Exact}
 use Rattle.promises.proofs.Lists.{all-at, all-from, of-kept, pairwise-kept, begins-kept, kept-none, kept-all, kept-kept, length-kept, count-less, count-all}
 use Rattle.promises.proofs.Keys.{before-same, within-before, within-upTo, kinds-either}
 use Rattle.promises.proofs.Books.{dead-true, false-live, of-joined, shape}
 use Rattle.promises.proofs.Theory.{same-answers, in-opened, opened-all, opened-wider, l3}
 use Rattle.promises.proofs.Frugal.{holds, holds-many}
-use Rattle.promises.proofs.Rows.{not-after, top-first, some-none, one-fails, rising-answer, of-row, first-cases, HaltsAt, no-halt, past-top, at-top, live-opened, Hands, Ends, call-cases}
+use Rattle.promises.proofs.Rows.{not-after, top-first, some-none, same-some, one-fails, rising-answer, of-row, first-cases, HaltsAt, no-halt, past-top, at-top, live-opened, Hands, Ends, call-cases}
 
 -- what lies before the end was opened by then
 listed-opened : (e : Ending) (k : Key) → within (listedBound e) k ≡ true → within (openedBound e) k ≡ true
@@ -64,6 +64,11 @@ not-done h = absurd (both-ways false refl (ap isDone h))
 done-reply : (e : Ending) → lastReply e ≡ Ok None → e ≡ done
 done-reply done h = refl
 done-reply (halted f κ) h = absurd (both-ways false refl (sym (ap isErr h)))
+
+-- a check that refuses gives its own fault
+refused-as : (t : Bool) (g f : Fault) → refuseIf t g ≡ Some f → f ≡ g
+refused-as true g f h = sym (same-some h)
+refused-as false g f h = some-none (sym h)
 
 module _ (q : Query) (laws : Laws q) (b : Book) (lawful : Lawful b) where
   -- a lawful book that keeps what is live of the pages opened as far as v agrees as far as u
@@ -155,52 +160,41 @@ module _ (q : Query) (laws : Laws q) (b : Book) (lawful : Lawful b) where
             let o = of-joined childrenOn b (t .0) in
             inr (o .0, c, opened-wider q laws b (below (pageKey q c)) all (λ k _. refl) (l3 q laws b (shape b lawful) (o .0) c (o .1) (t .1)), o .1, refl)
 
-    -- fewer are listed before a station of the answer than in all
-    fewer-before : (s : stated.Station) → s ∈ answer q b → length (listed q b (below (stationKey q s))) < length (answer q b)
-    fewer-before s m =
-        omega (arith, length-kept (λ t. before (stationKey q t) (stationKey q s)) (answer q b), count-all (answer q b), count-less (λ t. before (stationKey q t) (stationKey q s)) (λ _. true) (λ t _. refl) m (before-same (stationKey q s)) refl)
-
     module _ (room : Within q b limits) where
-      -- within the limits a live page opens
-      opens : (p : ℕ) (u : Bound) → IsLive (slot b p) → length (waiting q b u) ≤ limits .mostWaiting → openFault q b limits p u ≡ None
-      opens p u l r = ap (λ x. orElse (refuseIf x (fault DeadPage p 0)) (refuseIf (ltb (limits .mostWaiting) (length (waiting q b u))) (fault WaitingFull p 0))) (false-live (slot b p) l) ∙ ap (λ y. refuseIf y (fault WaitingFull p 0)) (le-ltb _ _ r)
+      -- a dead page that was opened halts the search
+      abbrev DeadEnd : Type 0
+      DeadEnd = (p : ℕ) × (κ : Key) × (end ≡ halted (fault DeadPage p 0) κ) × (slot b p ≡ dead) × (p ∈ opened q b all)
 
-      station-fits : (s : stated.Station) → s ∈ answer q b → haltAt q b limits (Station s) ≡ None
-      station-fits s m = ap (λ y. refuseIf y (fault ListFull (s .number) 0)) (lt-leb _ _ (omega (arith, fewer-before s m, room .stations)))
-
-      page-room : (c : Child) → c ∈ calledFor q b → length (waiting q b (upTo (pageKey q c))) ≤ limits .mostWaiting
-      page-room c m = all-at (λ c. length (waiting q b (upTo (pageKey q c))) ≤ limits .mostWaiting) (room .pages) m
-
-      live-done : All (λ p. IsLive (slot b p)) (opened q b all) → end ≡ done
-      live-done live = past-top q laws b lawful limits (opens 0 (below topKey) (live .0) (room .top)) ∙ no-halt q laws b lawful limits (row q b) fine
-        where
-          fine : (e : Entry) → e ∈ row q b → haltAt q b limits e ≡ None
-          fine e m = ⊎-elim
-              (λ r. subst (λ e. haltAt q b limits e ≡ None) (sym (r .2)) (opens (r .0 .page) (upTo (pageKey q (r .0))) (all-at (λ p. IsLive (slot b p)) live (in-opened q laws b all (r .1) refl)) (page-room (r .0) (r .1))))
-              (λ r. subst (λ e. haltAt q b limits e ≡ None) (sym (r .2)) (station-fits (r .0) (r .1)))
-              (of-row q laws b lawful m)
-
-      abbrev NamesDead : Type 0
-      NamesDead = (p : ℕ) × (κ : Key) × (end ≡ halted (fault DeadPage p 0) κ) × (slot b p ≡ dead)
+      unhindered : (f : Fault) (κ : Key) → end ≡ halted f κ → Unhindered (halted f κ)
+      unhindered f κ e = subst Unhindered e room
 
       -- within the limits only a dead page halts
-      dead-fault : (p : ℕ) (u : Bound) (f : Fault) → length (waiting q b u) ≤ limits .mostWaiting → openFault q b limits p u ≡ Some f → (slot b p ≡ dead) × (f ≡ fault DeadPage p 0)
-      dead-fault p u f r h = ⊎-elim (λ k. (dead-true (slot b p) (k .0), k .1)) (λ k. absurd (omega (arith, ltb-true _ _ (k .0), r))) (one-fails _ _ _ _ f h)
+      dead-end : (p : ℕ) (u : Bound) (f : Fault) (κ : Key) → p ∈ opened q b all → openFault q b limits p u ≡ Some f → end ≡ halted f κ → DeadEnd
+      dead-end p u f κ m h e = ⊎-elim
+          (λ k. (p, κ, e ∙ ap (λ g. halted g κ) (k .1), dead-true (slot b p) (k .0), m))
+          (λ k. absurd (unhindered f κ e .0 (ap (λ g. g .code) (k .1))))
+          (one-fails _ _ _ _ f h)
 
-      halted-dead : HaltsAt q laws b lawful limits (row q b) (firstHalt q b limits (row q b)) → openFault q b limits 0 (below topKey) ≡ None → NamesDead
-      halted-dead h top = ⊎-elim
-          (λ r.
-          let d = dead-fault (r .0 .page) (upTo (pageKey q (r .0))) (h .1) (page-room (r .0) (r .1)) (subst (λ e. haltAt q b limits e ≡ Some (h .1)) (r .2) (h .3)) in
-          (r .0 .page, keyOf q (h .0), past-top q laws b lawful limits top ∙ h .4 ∙ ap (λ f. halted f (keyOf q (h .0))) (d .1), d .0))
-          (λ r. some-none (sym (subst (λ e. haltAt q b limits e ≡ Some (h .1)) (r .2) (h .3)) ∙ station-fits (r .0) (r .1)))
+      row-end : HaltsAt q laws b lawful limits (row q b) (firstHalt q b limits (row q b)) → openFault q b limits 0 (below topKey) ≡ None → DeadEnd
+      row-end h top =
+          let e = past-top q laws b lawful limits top ∙ h .4 in
+          ⊎-elim
+          (λ r. dead-end (r .0 .page) (upTo (pageKey q (r .0))) (h .1) (keyOf q (h .0)) (in-opened q laws b all (r .1) refl) (subst (λ x. haltAt q b limits x ≡ Some (h .1)) (r .2) (h .3)) e)
+          (λ r. absurd (unhindered (h .1) (keyOf q (h .0)) e .1 (ap (λ g. g .code) (refused-as _ _ (h .1) (subst (λ x. haltAt q b limits x ≡ Some (h .1)) (r .2) (h .3))))))
           (of-row q laws b lawful (h .2))
 
-      names-dead : (end ≡ done → ⊥) → NamesDead
-      names-dead ne = go (openFault q b limits 0 (below topKey)) refl
+      done-or-dead : (end ≡ done) ⊎ DeadEnd
+      done-or-dead = go (openFault q b limits 0 (below topKey)) refl
         where
-          go : (o : Option Fault) → openFault q b limits 0 (below topKey) ≡ o → NamesDead
-          go (Some f) e = let d = dead-fault 0 (below topKey) f (room .top) e in (0, topKey, at-top q laws b lawful limits f e ∙ ap (λ f. halted f topKey) (d .1), d .0)
-          go None e = ⊎-elim (λ h. absurd (ne (past-top q laws b lawful limits e ∙ h))) (λ h. halted-dead h e) (first-cases q laws b lawful limits (row q b))
+          go : (o : Option Fault) → openFault q b limits 0 (below topKey) ≡ o → (end ≡ done) ⊎ DeadEnd
+          go (Some f) e = inr (dead-end 0 (below topKey) f topKey (here refl) e (at-top q laws b lawful limits f e))
+          go None e = ⊎-elim (λ h. inl (past-top q laws b lawful limits e ∙ h)) (λ h. inr (row-end h e)) (first-cases q laws b lawful limits (row q b))
+
+      live-done : All (λ p. IsLive (slot b p)) (opened q b all) → end ≡ done
+      live-done live = ⊎-elim (λ d. d) (λ d. absurd (subst IsLive (d .3) (all-at (λ p. IsLive (slot b p)) live (d .4)))) done-or-dead
+
+      names-dead : (end ≡ done → ⊥) → (p : ℕ) × (κ : Key) × (end ≡ halted (fault DeadPage p 0) κ) × (slot b p ≡ dead)
+      names-dead ne = ⊎-elim (λ d. absurd (ne d)) (λ d. (d .0, d .1, d .2, d .3)) done-or-dead
 
 pub sound : Sound
 sound q laws b lawful limits zero w k = (answer q w, refl)
