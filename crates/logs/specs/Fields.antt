@@ -1,5 +1,5 @@
 -- The kinds of field, and the two kinds of line as rows of them.
-use mathlib.Core.Bool.{Bool, cond, true, _&&_, _||_}
+use mathlib.Core.Bool.{Bool, true, _&&_, _||_}
 use mathlib.Core.List.{List, [], _∷_}
 use Prim.Native.Nat.{ℕ}
 use lib.Dec.{eqb, leb, ltb}

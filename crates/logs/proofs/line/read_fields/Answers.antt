@@ -1,7 +1,5 @@
-use mathlib.Core.Path.{_≡_, sym, _∙_, ap}
-use Prim.Native.Nat.{_<_}
-use native.Mathlib.Omega.{arith}
-use lib.ListN.{length, getD, drop}
+use mathlib.Core.Path.{sym, _∙_, ap}
+use lib.ListN.{getD}
 use Rattle.std.proofs.shelf.Tests.{false≢true}
 use Rattle.stations.specs.Faults.{verdict}
 use Rattle.logs.specs.Fields.{spells}
