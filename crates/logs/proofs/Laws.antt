@@ -25,7 +25,7 @@ use Rattle.logs.specs.Checks.{mostBytes, logFault, lineFault, linesFault, stat
 use Rattle.logs.specs.Rendering.{rendering, lineText, letterOf, weightsOf, weightNumbers, weightsAt, questionNumbers, Valid, Rendered, Same, AcceptsExactly}
 use Rattle.logs.specs.declared.field.FieldKind.the-variants.{Letter, Measure, Weight}
 use Rattle.logs.proofs.Cuts.{some-piece}
-use Rattle.logs.proofs.Ranges.{pass-at}
+use Rattle.logs.proofs.Ranges.{pass-at, weights-small}
 use Rattle.logs.proofs.Heads.{question-numbers}
 use Rattle.logs.proofs.Verdicts.{neither, passed, after-none, fine-none, length-paired}
 use Rattle.logs.proofs.Texts.{LineOf, line-of, lines-of, stationText, stations-accepted, stations-back}
@@ -39,15 +39,7 @@ record Ranked (ns : List ℕ) : Type 0 where
 
 ranked : (ns : List ℕ) → pass admits questionLine ns ≡ true → length ns ≡ 14 → Ranked ns
 ranked ns e long =
-    let small : (i : ℕ) → i < 14 → getD questionLine i Letter ≡ Weight → getD ns i 0 ≤ 1000 =
-    λ i h k. let t : admits Weight (getD ns i 0) ≡ true = ap (λ x. admits x (getD ns i 0)) (sym k) ∙ pass-at admits questionLine ns i 0 e h (omega arith) in leb-true (getD ns i 0) 1000 t in
-    let w : Weights = record {
-      w1 = getD ns 10 0;
-      w2 = getD ns 11 0;
-      w3 = getD ns 12 0;
-      w4 = getD ns 13 0;
-      small = (small 10 (omega arith) refl, small 11 (omega arith) refl, small 12 (omega arith) refl, small 13 (omega arith) refl);
-    } in
+    let w : Weights = record { w1 = getD ns 10 0; w2 = getD ns 11 0; w3 = getD ns 12 0; w4 = getD ns 13 0; small = weights-small ns e long } in
     let l : admits Letter (getD ns 0 0) ≡ true = pass-at admits questionLine ns 0 0 e (omega arith) (omega arith) in
     elim (or-cases _ _ l) [
       | inl a ↦ record { ranker = Sum (record { weights = w }); letter = sym (eqb-true (getD ns 0 0) sumLetter a); weights = refl }
