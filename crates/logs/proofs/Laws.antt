@@ -3,13 +3,13 @@ use mathlib.Core.Path.{_≡_, refl, sym, _∙_, ap}
 use mathlib.Core.Bool.{true, false}
 use mathlib.Core.List.{List, [], _∷_, _++_}
 use mathlib.Core.Logic.{inl, inr}
-use Prim.Native.Nat.{ℕ, _<_, _≤_}
+use Prim.Native.Nat.{ℕ, _≤_}
 use native.Mathlib.Omega.{arith}
 use lib.Dec.{ltb}
 use lib.ListN.{length, drop, getD}
 use Rattle.std.specs.shelf.Lists.{joined}
 use Rattle.std.specs.declared.option.Option.the-variants.{None}
-use Rattle.std.proofs.shelf.Tests.{le-ltb, ltb-false, leb-true, eqb-true, or-cases}
+use Rattle.std.proofs.shelf.Tests.{le-ltb, ltb-false, eqb-true, or-cases}
 use Rattle.stations.specs.declared.fault.Code.the-variants.{TextTooLong, ShortBuffer}
 use Rattle.stations.specs.declared.station.Station.{Station}
 use Rattle.stations.specs.declared.question.Question.{Question}

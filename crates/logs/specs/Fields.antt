@@ -17,10 +17,11 @@ questionLine = Letter ∷ Measure ∷ Measure ∷ Measure ∷ Measure ∷ Measur
 abbrev pub stationLine : List FieldKind
 stationLine = Number ∷ Measure ∷ Measure ∷ Measure ∷ Measure ∷ []
 
--- the letters of the two rankings
+-- S names the weighted sum
 abbrev pub sumLetter : ℕ
 sumLetter = 83
 
+-- W names the largest product
 abbrev pub largestLetter : ℕ
 largestLetter = 87
 

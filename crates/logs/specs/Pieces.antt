@@ -20,10 +20,11 @@ join sep [] = []
 join sep (p ∷ []) = p
 join sep (p ∷ q ∷ ps) = p ++ sep ∷ join sep (q ∷ ps)
 
--- the bytes that part fields and end lines
+-- the byte between two fields
 abbrev pub comma : ℕ
 comma = 44
 
+-- the byte at the end of every line
 abbrev pub lineEnd : ℕ
 lineEnd = 10
 

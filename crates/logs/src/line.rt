@@ -1,13 +1,13 @@
 // Lines: found in the text, and read field by field.
 ghost use mathlib.Core.Path.{_≡_};
 ghost use mathlib.Core.Bool.{true};
-ghost use Prim.Native.Nat.{_+_, _≤_};
+ghost use Prim.Native.Nat.{_+_, _<_, _≤_};
 ghost use lib.ListN.{length, drop};
 ghost use Rattle.std.specs.Options.{Cases as BySome};
 ghost use Rattle.std.specs.Results.{isOk};
 ghost use Rattle.std.specs.declared.option.Option.the-variants.{Some, None};
 ghost use Rattle.stations.specs.declared.fault.Code.the-variants.{BadField, OutOfRange};
-ghost use Rattle.stations.specs.Faults.{verdict};
+ghost use Rattle.stations.specs.Faults.{fault, verdict};
 ghost use Rattle.logs.specs.Pieces.{lineEnd, fieldsOf};
 ghost use Rattle.logs.specs.Tokens.{front};
 ghost use Rattle.logs.specs.Fields.{spells, admits};
@@ -66,6 +66,18 @@ fn field_at<'a>(line: &'a [u8], at: usize) -> &'a [u8]
     }
 }
 
+// Why a field is refused. Its place in the row of kinds is from 0, and fields are counted from 1.
+fn field_fault(code: Code, line: u32, place: usize) -> Fault
+    requires { ⌜ place < 14 ⌝ }
+    ensures { λ r. ⌜ r ≡ fault code line (place + 1) ⌝ }
+{
+    Fault {
+        code,
+        first: line,
+        second: place as u32 + 1,
+    }
+}
+
 // Reads each field as its kind asks, into the place of the kind. The line has as many fields as there are kinds.
 fn read_fields(
     number: u32,
@@ -86,11 +98,7 @@ fn read_fields(
         let field = field_at(line, at);
         match kinds[j].read(field) {
             Some(n) => numbers[j] = n,
-            None => return Err(Fault {
-                code: Code::BadField,
-                first: number,
-                second: j as u32 + 1,
-            }),
+            None => return Err(field_fault(Code::BadField, number, j)),
         }
         at += field.len() + 1;
     }
@@ -105,11 +113,7 @@ fn check_ranges(number: u32, kinds: &[FieldKind], numbers: &[u64]) -> Result<(),
 {
     for j in 0..kinds.len() {
         if !kinds[j].admits(numbers[j]) {
-            return Err(Fault {
-                code: Code::OutOfRange,
-                first: number,
-                second: j as u32 + 1,
-            });
+            return Err(field_fault(Code::OutOfRange, number, j));
         }
     }
     Ok(())
