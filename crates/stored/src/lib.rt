@@ -1,0 +1,2 @@
+// Stored books: pages of 256 bytes that are loaded, checked and read page by page.
+mod layout;
