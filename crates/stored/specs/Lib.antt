@@ -1,1 +1,4 @@
 pub mod Layout
+pub mod Notes
+pub mod Checks
+pub mod Loading
