@@ -14,8 +14,8 @@ use Rattle.stations.specs.Beating.{atMost}
 use Rattle.books.specs.declared.Child.{Child}
 use Rattle.books.specs.Books.{Slot, dead, leaf, node}
 use Rattle.stored.specs.declared.naming.Naming.{Naming}
-use Rattle.stored.specs.Layout.{levelByte, countByte, isPadded, liveSlot}
-use Rattle.stored.specs.Notes.{Notes, noteOf, isNamed, noteOne, occurs}
+use Rattle.stored.specs.Layout.{levelByte, countByte, isPadded, live}
+use Rattle.stored.specs.Notes.{Notes, isNamed, noteOne, occurs}
 
 -- the header keeps the layout, and only a top of level 0 is without entries
 abbrev pub isFairHeader : ℕ → List ℕ → Bool
@@ -56,14 +56,15 @@ stationsFault p naming numbers i [] = None
 stationsFault p naming numbers i (s ∷ ss) =
     orElse (stationFault p naming numbers i s) (stationsFault p naming (numbers ++ s .number ∷ []) (i + 1) ss)
 
-abbrev pub entriesFault : ℕ → ℕ → Notes → List ℕ → Slot → Option Fault
-entriesFault pages p notes numbers dead = None
-entriesFault pages p notes numbers (leaf ss) = stationsFault p (noteOf notes p) numbers 0 ss
-entriesFault pages p notes numbers (node l cs) = childrenFault pages p (noteOf notes p) (suc l) notes 0 cs
+-- the first fault of the entries of a page
+abbrev pub entriesFault : ℕ → ℕ → Option Naming → Notes → List ℕ → Slot → Option Fault
+entriesFault pages p naming notes numbers dead = None
+entriesFault pages p naming notes numbers (leaf ss) = stationsFault p naming numbers 0 ss
+entriesFault pages p naming notes numbers (node l cs) = childrenFault pages p naming (suc l) notes 0 cs
 
 -- the first fault of a live page that counts: its header, its level, its entries in turn
-abbrev pub pageFault : ℕ → ℕ → Notes → List ℕ → List ℕ → Option Fault
-pageFault pages p notes numbers page =
+abbrev pub pageFault : ℕ → ℕ → Option Naming → Notes → List ℕ → List ℕ → Option Fault
+pageFault pages p naming notes numbers page =
     orElse (refuseIf (not (isFairHeader p page)) (fault PageHeader p 255))
-    (orElse (refuseIf (not (isBelow (noteOf notes p) (levelByte page))) (fault PageLevel p 255))
-    (entriesFault pages p notes numbers (liveSlot (levelByte page) page)))
+    (orElse (refuseIf (not (isBelow naming (levelByte page))) (fault PageLevel p 255))
+    (entriesFault pages p naming notes numbers (live page)))

@@ -58,11 +58,15 @@ stationsIn page = map (λ i. stationAt page (8 + 12 * i)) (counting 0 (countByte
 abbrev pub childrenIn : List ℕ → List Child
 childrenIn page = map (λ i. childAt page (8 + 18 * i)) (counting 0 (countByte page))
 
--- the live page of a level
+-- the live page of this level that the bytes spell
 abbrev pub liveSlot : ℕ → List ℕ → Slot
 liveSlot zero page = leaf (stationsIn page)
 liveSlot (suc l) page = node l (childrenIn page)
 
+-- the page that the bytes spell where they have no mark of a dead page
+abbrev pub live : List ℕ → Slot
+live page = liveSlot (levelByte page) page
+
 -- the page that the bytes spell
 abbrev pub spelledSlot : List ℕ → Slot
-spelledSlot page = cond (isMarkedDead page) dead (liveSlot (levelByte page) page)
+spelledSlot page = cond (isMarkedDead page) dead (live page)

@@ -1,4 +1,5 @@
 pub mod Layout
 pub mod Notes
+pub mod Listed
 pub mod Checks
 pub mod Loading

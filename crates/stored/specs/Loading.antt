@@ -11,8 +11,8 @@ use Rattle.stations.specs.declared.fault.Fault.{Fault}
 use Rattle.stations.specs.declared.fault.Code.the-variants.{BookLength}
 use Rattle.stations.specs.Faults.{placeless, refuseIf, orElse}
 use Rattle.books.specs.Books.{Slot, dead, Book}
-use Rattle.stored.specs.Layout.{levelByte, isMarkedDead, liveSlot}
-use Rattle.stored.specs.Notes.{Notes, noNotes, isNamed, notesAfter, numbersAfter}
+use Rattle.stored.specs.Layout.{isMarkedDead, live}
+use Rattle.stored.specs.Notes.{Notes, noNotes, noteOf, isNamed, notesAfter, numbersAfter}
 use Rattle.stored.specs.Checks.{pageFault}
 
 abbrev pub pageCount : List ℕ → ℕ
@@ -31,7 +31,7 @@ isLiveAt notes p page = (eqb p 0 || isNamed notes p) && not (isMarkedDead page)
 
 -- a page that does not count is as good as dead
 abbrev pub slotAt : Notes → ℕ → List ℕ → Slot
-slotAt notes p page = cond (isLiveAt notes p page) (liveSlot (levelByte page) page) dead
+slotAt notes p page = cond (isLiveAt notes p page) (live page) dead
 
 -- the slots of these pages, from page p on
 abbrev pub slotsFrom : ℕ → Notes → List (List ℕ) → List Slot
@@ -42,7 +42,7 @@ slotsFrom p notes (page ∷ rest) = slotAt notes p page ∷ slotsFrom (p + 1) (n
 abbrev pub walkFault : ℕ → ℕ → Notes → List ℕ → List (List ℕ) → Option Fault
 walkFault pages p notes numbers [] = None
 walkFault pages p notes numbers (page ∷ rest) =
-    orElse (cond (isLiveAt notes p page) (pageFault pages p notes numbers page) None)
+    orElse (cond (isLiveAt notes p page) (pageFault pages p (noteOf notes p) notes numbers page) None)
     (walkFault pages (p + 1) (notesAfter notes (slotAt notes p page)) (numbersAfter numbers (slotAt notes p page)) rest)
 
 -- a book has 1 to 256 pages of 256 bytes

@@ -1,17 +1,26 @@
 // Checks of one page.
 ghost use mathlib.Core.Path.{_≡_};
-ghost use Prim.Native.Nat.{_<_, _≤_};
+ghost use mathlib.Core.List.{map, _++_};
+ghost use Prim.Native.Nat.{_+_, _<_, _≤_};
 ghost use lib.ListN.{length};
 ghost use Rattle.stations.specs.Faults.{verdict, fault};
 ghost use Rattle.std.specs.declared.result.Result.the-variants.{Ok};
-ghost use Rattle.stored.specs.Notes.{occurs};
-ghost use Rattle.stored.specs.Checks.{isFairHeader, isBelow, isWithin, childFault, stationFault};
+ghost use Rattle.stored.specs.Layout.{levelByte, countByte, stationsIn, childrenIn, isPadded, live};
+ghost use Rattle.stored.specs.Notes.{noteAll, notesAfter, numbersAfter};
+ghost use Rattle.stored.specs.Listed.{listed};
+ghost use Rattle.stored.specs.Checks.{isFairHeader, isBelow, isWithin, childFault, stationFault, childrenFault, stationsFault, entriesFault, pageFault};
+use crate::layout::child_at;
+use crate::layout::station_at;
 use crate::naming::Naming;
+use crate::numbers::Numbers;
 use books::Child;
 use stations::Code;
 use stations::Fault;
 use stations::Measures;
 use stations::Station;
+
+// The second place of a refusal that is of a page and not of an entry.
+const WHOLE_PAGE: usize = 255;
 
 // Where a page stands: its number, the page count, and how it was named.
 #[derive(Clone, Copy)]
@@ -30,7 +39,8 @@ impl Place {
         Fault { code, first: self.page, second: entry as u32 }
     }
 
-    fn is_above(self, level: u8) -> bool
+    // The page is one level below the page that names it.
+    fn fits_level(self, level: u8) -> bool
         ensures { λ r. ⌜ r ≡ isBelow (self .naming) level ⌝ }
     {
         match self.naming {
@@ -66,11 +76,11 @@ impl Place {
         Ok(())
     }
 
-    fn check_station(self, numbers: &[u32], entry: usize, station: Station) -> Result<(), Fault>
-        requires { ⌜ entry < 256 ⌝ }
-        ensures { λ r. ⌜ r ≡ verdict (stationFault (self .page) (self .naming) (now (numbers .entry)) entry station) ⌝ }
+    fn check_station(self, numbers: &Numbers, entry: usize, station: Station) -> Result<(), Fault>
+        requires { ⌜ entry < 256 ⌝ ∗ ⌜ now numbers .len ≤ 3072 ⌝ }
+        ensures { λ r. ⌜ r ≡ verdict (stationFault (self .page) (self .naming) (listed (now (numbers .entry))) entry station) ⌝ }
     {
-        if station.number == 0 || has_number(numbers, station.number) {
+        if station.number == 0 || numbers.has(station.number) {
             return Err(self.refusal(Code::StationNumber, entry));
         }
         if !self.holds(station.at, station.at) {
@@ -78,15 +88,80 @@ impl Place {
         }
         Ok(())
     }
-}
 
-fn has_number(numbers: &[u32], number: u32) -> bool
-    ensures { λ r. ⌜ r ≡ occurs number (now (numbers .entry)) ⌝ }
-{
-    for n in numbers {
-        if *n == number {
-            return true;
+    // Checks the named pages of a page in turn, and notes each.
+    fn check_children(self, level: u8, notes: &mut [Option<Naming>], page: &[u8]) -> Result<(), Fault>
+        requires { ⌜ length (now page) ≡ 256 ⌝ ∗ ⌜ countByte (now page) ≤ 12 ⌝ ∗ ⌜ self .pages ≤ length (now notes) ⌝ }
+        ensures answer { λ r. ⌜ r ≡ verdict (childrenFault (self .pages) (self .page) (self .naming) level (now (notes .entry)) 0 (childrenIn (now (page .entry)))) ⌝ }
+        ensures noted { λ r. ⌜ (r ≡ Ok tt → now (notes .exit) ≡ noteAll level (now (notes .entry)) (childrenIn (now (page .entry)))) ⌝ }
+    {
+        for i in 0..page[1] as usize {
+            let child = child_at(page, 8 + 18 * i);
+            self.check_child(notes, i, child)?;
+            notes[child.page as usize] = Some(Naming { level, bounds: child.bounds });
+        }
+        Ok(())
+    }
+
+    // Checks the stations of a page in turn, and lists the number of each.
+    fn check_stations(self, numbers: &mut Numbers, page: &[u8]) -> Result<(), Fault>
+        requires { ⌜ length (now page) ≡ 256 ⌝ ∗ ⌜ countByte (now page) ≤ 12 ⌝ ∗ ⌜ now numbers .len + 12 ≤ 3072 ⌝ }
+        ensures answer { λ r. ⌜ r ≡ verdict (stationsFault (self .page) (self .naming) (listed (now (numbers .entry))) 0 (stationsIn (now (page .entry)))) ⌝ }
+        ensures listed { λ r. ⌜ (r ≡ Ok tt → listed (now (numbers .exit)) ≡ listed (now (numbers .entry)) ++ map (λ s. s .number) (stationsIn (now (page .entry)))) ⌝ }
+        ensures few { λ r. ⌜ now (numbers .exit) .len ≤ now (numbers .entry) .len + 12 ⌝ }
+    {
+        for i in 0..page[1] as usize {
+            let station = station_at(page, 8 + 12 * i);
+            self.check_station(numbers, i, station)?;
+            numbers.push(station.number);
+        }
+        Ok(())
+    }
+
+    // Checks the entries of a page, stations at level 0 and named pages above.
+    fn check_entries(self, notes: &mut [Option<Naming>], numbers: &mut Numbers, page: &[u8]) -> Result<(), Fault>
+        requires { ⌜ length (now page) ≡ 256 ⌝ ∗ ⌜ countByte (now page) ≤ 12 ⌝ ∗ ⌜ self .pages ≤ length (now notes) ⌝ ∗ ⌜ now numbers .len + 12 ≤ 3072 ⌝ }
+        ensures answer { λ r. ⌜ r ≡ verdict (entriesFault (self .pages) (self .page) (self .naming) (now (notes .entry)) (listed (now (numbers .entry))) (live (now (page .entry)))) ⌝ }
+        ensures noted { λ r. ⌜ (r ≡ Ok tt → now (notes .exit) ≡ notesAfter (now (notes .entry)) (live (now (page .entry)))) ⌝ }
+        ensures listed { λ r. ⌜ (r ≡ Ok tt → listed (now (numbers .exit)) ≡ numbersAfter (listed (now (numbers .entry))) (live (now (page .entry)))) ⌝ }
+        ensures few { λ r. ⌜ now (numbers .exit) .len ≤ now (numbers .entry) .len + 12 ⌝ }
+    {
+        if page[0] == 0 {
+            self.check_stations(numbers, page)
+        } else {
+            self.check_children(page[0], notes, page)
         }
     }
-    false
+
+    // Checks a live page that counts: its header, its level, its entries in turn.
+    pub fn check_page(self, notes: &mut [Option<Naming>], numbers: &mut Numbers, page: &[u8]) -> Result<(), Fault>
+        requires { ⌜ length (now page) ≡ 256 ⌝ ∗ ⌜ self .pages ≤ length (now notes) ⌝ ∗ ⌜ now numbers .len + 12 ≤ 3072 ⌝ }
+        ensures answer { λ r. ⌜ r ≡ verdict (pageFault (self .pages) (self .page) (self .naming) (now (notes .entry)) (listed (now (numbers .entry))) (now (page .entry))) ⌝ }
+        ensures noted { λ r. ⌜ (r ≡ Ok tt → now (notes .exit) ≡ notesAfter (now (notes .entry)) (live (now (page .entry)))) ⌝ }
+        ensures listed { λ r. ⌜ (r ≡ Ok tt → listed (now (numbers .exit)) ≡ numbersAfter (listed (now (numbers .entry))) (live (now (page .entry)))) ⌝ }
+        ensures few { λ r. ⌜ now (numbers .exit) .len ≤ now (numbers .entry) .len + 12 ⌝ }
+    {
+        if !is_fair_header(self.page, page) {
+            return Err(self.refusal(Code::PageHeader, WHOLE_PAGE));
+        }
+        if !self.fits_level(page[0]) {
+            return Err(self.refusal(Code::PageLevel, WHOLE_PAGE));
+        }
+        self.check_entries(notes, numbers, page)
+    }
+}
+
+fn is_padded(page: &[u8]) -> bool
+    requires { ⌜ length (now page) ≡ 256 ⌝ }
+    ensures { λ r. ⌜ r ≡ isPadded (now (page .entry)) ⌝ }
+{
+    page[2] == 0 && page[3] == 0 && page[4] == 0 && page[5] == 0 && page[6] == 0 && page[7] == 0
+}
+
+// The header keeps the layout, and only a top of level 0 is without entries.
+fn is_fair_header(number: u32, page: &[u8]) -> bool
+    requires { ⌜ length (now page) ≡ 256 ⌝ }
+    ensures { λ r. ⌜ r ≡ isFairHeader number (now (page .entry)) ⌝ }
+{
+    page[0] <= 7 && page[1] <= 12 && is_padded(page) && (page[1] != 0 || number == 0 && page[0] == 0)
 }

@@ -2,3 +2,4 @@
 mod check;
 mod layout;
 mod naming;
+mod numbers;

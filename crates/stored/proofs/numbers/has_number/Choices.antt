@@ -1,7 +1,7 @@
 use mathlib.Core.Path.{_≡_}
 use lib.ListN.{drop}
 use Rattle.stored.specs.Notes.{occurs}
-use Rattle.stored.proofs.check.has_number.Given as given
+use Rattle.stored.proofs.numbers.has_number.Given as given
 
 -- what is left decides
 abbrev pub Inv-loop-n : given.InvT-loop-n

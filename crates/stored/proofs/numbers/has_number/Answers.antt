@@ -5,7 +5,7 @@ use lib.ListN.{drop}
 use borrow.Author.Tests.{eq-eqb, ne-eqb}
 use Rattle.std.proofs.shelf.Lists.{at-drop-more, at-drop-all}
 use Rattle.stored.specs.Notes.{occurs}
-use Rattle.stored.proofs.check.has_number.Needs as need
+use Rattle.stored.proofs.numbers.has_number.Needs as need
 
 pub returns-then-n-number : need.returns-then-n-number
 returns-then-n-number c =
