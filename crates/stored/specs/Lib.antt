@@ -3,3 +3,4 @@ pub mod Notes
 pub mod Listed
 pub mod Checks
 pub mod Loading
+pub mod Visits

@@ -10,7 +10,7 @@ use Rattle.std.specs.declared.option.Option.the-variants.{Some, None}
 use Rattle.stations.specs.declared.fault.Fault.{Fault}
 use Rattle.stations.specs.declared.fault.Code.the-variants.{BookLength}
 use Rattle.stations.specs.Faults.{placeless, refuseIf, orElse}
-use Rattle.books.specs.Books.{Slot, dead, Book}
+use Rattle.books.specs.Books.{Slot, dead, Book, isDead}
 use Rattle.stored.specs.Layout.{isMarkedDead, live}
 use Rattle.stored.specs.Notes.{Notes, noNotes, noteOf, isNamed, notesAfter, numbersAfter}
 use Rattle.stored.specs.Checks.{pageFault}
@@ -38,11 +38,15 @@ abbrev pub slotsFrom : ℕ → Notes → List (List ℕ) → List Slot
 slotsFrom p notes [] = []
 slotsFrom p notes (page ∷ rest) = slotAt notes p page ∷ slotsFrom (p + 1) (notesAfter notes (slotAt notes p page)) rest
 
--- the first fault of these pages, from page p on; a page that does not count and a dead one have none
+-- the fault of one page; a page that does not count and a dead one have none
+abbrev pub visitFault : ℕ → ℕ → Notes → List ℕ → List ℕ → Option Fault
+visitFault pages p notes numbers page = cond (isLiveAt notes p page) (pageFault pages p (noteOf notes p) notes numbers page) None
+
+-- the first fault of these pages, from page p on
 abbrev pub walkFault : ℕ → ℕ → Notes → List ℕ → List (List ℕ) → Option Fault
 walkFault pages p notes numbers [] = None
 walkFault pages p notes numbers (page ∷ rest) =
-    orElse (cond (isLiveAt notes p page) (pageFault pages p (noteOf notes p) notes numbers page) None)
+    orElse (visitFault pages p notes numbers page)
     (walkFault pages (p + 1) (notesAfter notes (slotAt notes p page)) (numbersAfter numbers (slotAt notes p page)) rest)
 
 -- a book has 1 to 256 pages of 256 bytes
@@ -56,3 +60,7 @@ loadFault bytes = orElse (lengthFault bytes) (walkFault (pageCount bytes) 0 noNo
 -- the book that the bytes spell
 unfoldable pub spelledBook : List ℕ → Book
 spelledBook bytes = slotsFrom 0 noNotes (pagesIn bytes)
+
+-- which pages can be read
+abbrev pub marks : Book → List Bool
+marks b = map (λ s. not (isDead s)) b

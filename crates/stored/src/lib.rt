@@ -3,3 +3,4 @@ mod check;
 mod layout;
 mod naming;
 mod numbers;
+mod walk;

@@ -8,6 +8,7 @@ ghost use Rattle.stored.specs.Listed.{listed};
 // Twelve for each of 256 pages.
 pub const MOST_NUMBERS: usize = 3072;
 
+#[derive(Drop)]
 pub struct Numbers {
     pub all: [u32; 3072],
     pub len: usize,

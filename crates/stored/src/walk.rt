@@ -1,0 +1,61 @@
+// The check of a whole book: the pages that count, in rising number.
+ghost use mathlib.Core.Path.{_≡_};
+ghost use mathlib.Core.Bool.{true};
+ghost use mathlib.Core.List.{[]};
+ghost use Prim.Native.Nat.{_+_, _*_, _%_, _<_, _≤_};
+ghost use lib.ListN.{length, take};
+ghost use Rattle.std.specs.declared.result.Result.the-variants.{Ok};
+ghost use Rattle.std.specs.Results.{isOk};
+ghost use Rattle.stations.specs.Faults.{verdict};
+ghost use Rattle.stored.specs.Notes.{noNotes, notesAfter, numbersAfter};
+ghost use Rattle.stored.specs.Listed.{listed};
+ghost use Rattle.stored.specs.Loading.{pageCount, pagesIn, isLiveAt, slotAt, slotsFrom, visitFault, walkFault, lengthFault, marks};
+ghost use Rattle.stored.specs.Visits.{visited};
+use crate::check::Place;
+use crate::naming::Naming;
+use crate::numbers::Numbers;
+use stations::Code;
+use stations::Fault;
+
+// The bytes of a page.
+pub const PAGE: usize = 256;
+
+// The most bytes of a book.
+const MOST_BYTES: usize = 65536;
+
+// The first byte of a dead page.
+const DEAD: u8 = 255;
+
+// The page is the top or a page before it names it, and it is not dead.
+fn is_live_at(notes: &[Option<Naming>], p: usize, page: &[u8]) -> bool
+    requires { ⌜ length (now page) ≡ 256 ⌝ ∗ ⌜ p < length (now notes) ⌝ }
+    ensures { λ r. ⌜ r ≡ isLiveAt (now (notes .entry)) p (now (page .entry)) ⌝ }
+{
+    (p == 0 || notes[p].is_some()) && page[0] != DEAD
+}
+
+// Checks a page if it counts and is not dead, and says whether it can be read.
+fn visit(p: usize, pages: usize, notes: &mut [Option<Naming>], numbers: &mut Numbers, page: &[u8]) -> Result<bool, Fault>
+    requires { ⌜ p < pages ⌝ ∗ ⌜ pages ≤ 256 ⌝ ∗ ⌜ length (now notes) ≡ 256 ⌝ ∗ ⌜ length (now page) ≡ 256 ⌝ ∗ ⌜ now numbers .len + 12 ≤ 3072 ⌝ }
+    ensures answer { λ r. ⌜ r ≡ visited (visitFault pages p (now (notes .entry)) (listed (now (numbers .entry))) (now (page .entry))) (isLiveAt (now (notes .entry)) p (now (page .entry))) ⌝ }
+    ensures noted { λ r. ⌜ (isOk r ≡ true → now (notes .exit) ≡ notesAfter (now (notes .entry)) (slotAt (now (notes .entry)) p (now (page .entry)))) ⌝ }
+    ensures listed { λ r. ⌜ (isOk r ≡ true → listed (now (numbers .exit)) ≡ numbersAfter (listed (now (numbers .entry))) (slotAt (now (notes .entry)) p (now (page .entry)))) ⌝ }
+    ensures few { λ r. ⌜ now (numbers .exit) .len ≤ now (numbers .entry) .len + 12 ⌝ }
+{
+    if !is_live_at(notes, p, page) {
+        return Ok(false);
+    }
+    let place = Place { page: p as u32, pages: pages as u32, naming: notes[p] };
+    place.check_page(notes, numbers, page)?;
+    Ok(true)
+}
+
+// Refuses a length that is not that of 1 to 256 pages.
+pub fn check_length(bytes: &[u8]) -> Result<(), Fault>
+    ensures { λ r. ⌜ r ≡ verdict (lengthFault (now (bytes .entry))) ⌝ }
+{
+    if bytes.len() % PAGE != 0 || bytes.len() < PAGE || bytes.len() > MOST_BYTES {
+        return Err(Fault { code: Code::BookLength, first: 0, second: 0 });
+    }
+    Ok(())
+}
