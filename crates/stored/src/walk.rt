@@ -59,3 +59,18 @@ pub fn check_length(bytes: &[u8]) -> Result<(), Fault>
     }
     Ok(())
 }
+
+// Checks the pages in turn, and marks those that can be read.
+pub fn check_pages(bytes: &[u8], live: &mut [bool]) -> Result<(), Fault>
+    requires { ⌜ pageCount (now bytes) ≤ 256 ⌝ ∗ ⌜ length (now live) ≡ 256 ⌝ }
+    ensures answer { λ r. ⌜ r ≡ verdict (walkFault (pageCount (now (bytes .entry))) 0 noNotes [] (pagesIn (now (bytes .entry)))) ⌝ }
+    ensures marked { λ r. ⌜ (r ≡ Ok tt → take (pageCount (now (bytes .entry))) (now (live .exit)) ≡ marks (slotsFrom 0 noNotes (pagesIn (now (bytes .entry))))) ⌝ }
+{
+    let pages = bytes.len() / PAGE;
+    let mut notes: [Option<Naming>; 256] = [None; 256];
+    let mut numbers = Numbers::new();
+    for p in 0..pages {
+        live[p] = visit(p, pages, &mut notes, &mut numbers, &bytes[PAGE * p..PAGE * p + PAGE])?;
+    }
+    Ok(())
+}
