@@ -4,3 +4,4 @@ pub mod Listed
 pub mod Checks
 pub mod Loading
 pub mod Visits
+pub mod Meaning

@@ -7,6 +7,7 @@ use lib.ListN.{length, take, drop}
 use Rattle.std.specs.Iters.{counting}
 use Rattle.std.specs.declared.option.Option.{Option}
 use Rattle.std.specs.declared.option.Option.the-variants.{Some, None}
+use Rattle.std.specs.Options.{isSome}
 use Rattle.stations.specs.declared.fault.Fault.{Fault}
 use Rattle.stations.specs.declared.fault.Code.the-variants.{BookLength}
 use Rattle.stations.specs.Faults.{placeless, refuseIf, orElse}
@@ -56,6 +57,10 @@ lengthFault bytes = refuseIf (not (eqb (length bytes % 256) 0) || ltb (length by
 -- why the bytes are refused, or nothing
 unfoldable pub loadFault : List ℕ → Option Fault
 loadFault bytes = orElse (lengthFault bytes) (walkFault (pageCount bytes) 0 noNotes [] (pagesIn bytes))
+
+-- the bytes are not refused
+abbrev pub loads : List ℕ → Bool
+loads bytes = not (isSome (loadFault bytes))
 
 -- the book that the bytes spell
 unfoldable pub spelledBook : List ℕ → Book
