@@ -63,8 +63,8 @@ module _ (b : Book) (lawful : Lawful b) (ps : List ℕ) (rooted : Rooted b ps) (
   picked h m =
       let ok = home-ok (cut ps b) small-lawful h (of-gaps (cut ps b) h m .named) in
       cond-both (houses (g .page) h) c (h .child .bounds .low) (λ x. Inside x (h .child .bounds))
-          (λ e. subst (λ (d : Child). Inside c (d .bounds)) (only (names (g .page)) (named (cut ps b)) (small-lawful .named-once (g .page)) g-named (eq-eqb _ _ refl) (ok .named) e) at)
-          (λ e. record { above = omega arith; below = ok .ordered })
+      (λ e. subst (λ (d : Child). Inside c (d .bounds)) (only (names (g .page)) (named (cut ps b)) (small-lawful .named-once (g .page)) g-named (eq-eqb _ _ refl) (ok .named) e) at)
+      (λ e. record { above = omega arith; below = ok .ordered })
 
   base : ℕ
   base = suc (total (stations (cut ps b)))

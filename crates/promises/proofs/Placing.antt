@@ -149,12 +149,12 @@ module _ (b : Book) (h : Home) (s : Slot) (lawful : Lawful b) (o : Open b h) (go
   old-fits : (p : ℕ) (c : Child) → c ∈ childrenOn (slot b p) → Fits (level (slot b p)) (c .bounds) (slot (set b (h .child .page) s) (c .page))
   old-fits p c m =
       written (λ r t. c .page ≡ r → Fits (level (slot b p)) (c .bounds) t) b (h .child .page) s inside
-          (λ e.
-          let a = at-home (slot b p) m in
-          let same : h ≡ home (a .0) c = only (houses (h .child .page)) (homes b) (omega (arith, count-homes (h .child .page) b, lawful .named-once (h .child .page))) (o .named) (eq-eqb _ _ refl) (in-joined homesOn refl b p (a .2)) (eq-eqb _ _ e) in
-          subst (λ l. Fits l (c .bounds) s) (sym (a .1)) (subst (λ (y : Home). Fits (suc (y .level)) (y .child .bounds) s) same (go .fits)))
-          (λ r n e. subst (λ i. Fits (level (slot b p)) (c .bounds) (slot b i)) e (all-at (λ c. Fits (level (slot b p)) (c .bounds) (slot b (c .page))) (lawful .fits p) m))
-          (c .page) refl
+      (λ e.
+      let a = at-home (slot b p) m in
+      let same : h ≡ home (a .0) c = only (houses (h .child .page)) (homes b) (omega (arith, count-homes (h .child .page) b, lawful .named-once (h .child .page))) (o .named) (eq-eqb _ _ refl) (in-joined homesOn refl b p (a .2)) (eq-eqb _ _ e) in
+      subst (λ l. Fits l (c .bounds) s) (sym (a .1)) (subst (λ (y : Home). Fits (suc (y .level)) (y .child .bounds) s) same (go .fits)))
+      (λ r n e. subst (λ i. Fits (level (slot b p)) (c .bounds) (slot b i)) e (all-at (λ c. Fits (level (slot b p)) (c .bounds) (slot b (c .page))) (lawful .fits p) m))
+      (c .page) refl
 
   new-fits : (c : Child) → c ∈ childrenOn s → Fits (level s) (c .bounds) (slot (set b (h .child .page) s) (c .page))
   new-fits c m =
@@ -260,18 +260,18 @@ pub node-lawful : (b : Book) (h : Home) (l : ℕ) → Lawful b → Open b h → 
 node-lawful b h l lawful o lvl =
     let ok = home-ok b lawful h (o .named) in
     placed (b ++ dead ∷ []) h (node l (last-child b h ∷ [])) (grown b lawful)
-        record { named = subst (λ x. h ∈ x) (sym (joined-grown homesOn refl b)) (o .named); dead = slot-grown b (h .child .page) ∙ o .dead }
-        record {
-          fits = (ap suc lvl, (record { above = omega arith; below = omega arith }, tt));
-          level = omega arith;
-          size = omega arith;
-          filled = omega arith;
-          after = ((ok .inside, omega (arith, length-append b (dead ∷ []))), tt);
-          unread = ((getD-at b dead [] dead (length b) refl, λ e. omega (arith, ok .inside)), tt);
-          ordered = (ok .ordered, tt);
-          boxes = (ok .box, tt);
-          measures = tt;
-          numbers = tt;
-          names-fresh = λ p. fresh-one (λ x. x .page) (last-child b h) (named (b ++ dead ∷ [])) (subst (λ x. count (names (length b)) x ≡ 0) (sym (joined-grown childrenOn refl b)) (unnamed b lawful (length b) (omega arith))) p (grown b lawful .named-once p);
-          numbers-fresh = λ n. omega (arith, grown b lawful .numbered-once n);
-        }
+    record { named = subst (λ x. h ∈ x) (sym (joined-grown homesOn refl b)) (o .named); dead = slot-grown b (h .child .page) ∙ o .dead }
+    record {
+      fits = (ap suc lvl, (record { above = omega arith; below = omega arith }, tt));
+      level = omega arith;
+      size = omega arith;
+      filled = omega arith;
+      after = ((ok .inside, omega (arith, length-append b (dead ∷ []))), tt);
+      unread = ((getD-at b dead [] dead (length b) refl, λ e. omega (arith, ok .inside)), tt);
+      ordered = (ok .ordered, tt);
+      boxes = (ok .box, tt);
+      measures = tt;
+      numbers = tt;
+      names-fresh = λ p. fresh-one (λ x. x .page) (last-child b h) (named (b ++ dead ∷ [])) (subst (λ x. count (names (length b)) x ≡ 0) (sym (joined-grown childrenOn refl b)) (unnamed b lawful (length b) (omega arith))) p (grown b lawful .named-once p);
+      numbers-fresh = λ n. omega (arith, grown b lawful .numbered-once n);
+    }
