@@ -2,3 +2,5 @@ pub mod Steps
 pub mod Entries
 pub mod Walking
 pub mod Loads
+pub mod Counts
+pub mod Passing
