@@ -4,3 +4,4 @@ pub mod Walking
 pub mod Loads
 pub mod Counts
 pub mod Passing
+pub mod Fairness

@@ -118,8 +118,71 @@ children-pass pages p nm l notes i (c ∷ cs) fit e =
       long = rest .long ∙ same;
     }
 
+-- one more number at the end of a list
+occurs-push : (n : ℕ) (ms : List ℕ) (m : ℕ) → occurs n (ms ++ m ∷ []) ≡ occurs n ms || eqb m n
+occurs-push n [] m = by (eqb m n)
+  where
+    by : (t : Bool) → t || false ≡ false || t
+    by true = refl
+    by false = refl
+occurs-push n (k ∷ ms) m = ap (λ t. eqb k n || t) (occurs-push n ms m) ∙ by (eqb k n) (occurs n ms) (eqb m n)
+  where
+    by : (x y z : Bool) → x || (y || z) ≡ (x || y) || z
+    by true y z = refl
+    by false y z = refl
+
+-- one more number occurs
+number-counts : (numbers : List ℕ) (m : ℕ) → occurs m numbers ≡ false → (n : ℕ) → bit (occurs n (numbers ++ m ∷ [])) ≡ bit (occurs n numbers) + bit (eqb m n)
+number-counts numbers m fresh n = ap bit (occurs-push n numbers m) ∙ by (cases-eq m n)
+  where
+    by : (m ≡ n) ⊎ (m ≡ n → ⊥) → bit (occurs n numbers || eqb m n) ≡ bit (occurs n numbers) + bit (eqb m n)
+    by (inl same) =
+        let none : occurs n numbers ≡ false = ap (λ k. occurs k numbers) (sym same) ∙ fresh in
+        let one : eqb m n ≡ true = eq-eqb m n same in
+        let x : bit (occurs n numbers || eqb m n) ≡ 1 = ap (λ t. bit (t || eqb m n)) none ∙ ap (λ t. bit (false || t)) one in
+        let y = ap bit none in let z = ap bit one in omega arith
+    by (inr other) = plain (occurs n numbers) (eqb m n) (ne-eqb m n other)
+      where
+        plain : (x y : Bool) → y ≡ false → bit (x || y) ≡ bit x + bit y
+        plain true y e = let z = ap bit e in omega arith
+        plain false y e = omega arith
+
+-- a station that is not refused
+pub record StationPasses (nm : Option Naming) (numbers : List ℕ) (s : Station) : Type 0 where
+  pub positive : 1 ≤ s .number
+  pub fresh : occurs (s .number) numbers ≡ false
+  pub held : HeldBy nm (s .at) (s .at)
+
+station-passes : (p : ℕ) (nm : Option Naming) (numbers : List ℕ) (i : ℕ) (s : Station) → stationFault p nm numbers i s ≡ None → StationPasses nm numbers s
+station-passes p nm numbers i s e =
+    let first = both-pass _ _ e in
+    let a = or-parts (eqb (s .number) 0) (occurs (s .number) numbers) (not-refused _ _ (first .0)) in
+    let some : s .number ≡ 0 → ⊥ = eqb-false _ _ (a .0) in
+    record {
+      positive = omega arith;
+      fresh = a .1;
+      held = held-from nm _ _ (not-false _ (not-refused _ _ (first .1)));
+    }
+
 -- stations that are not refused
 pub record StationsPass (nm : Option Naming) (numbers : List ℕ) (ss : List Station) : Type 0 where
-  pub numbered : All (λ s. 1 ≤ s .number) ss
+  pub positive : All (λ s. 1 ≤ s .number) ss
   pub held : All (λ s. HeldBy nm (s .at) (s .at)) ss
-  pub counted : (n : ℕ) → bit (occurs n (numbers ++ map (λ s. s .number) ss)) ≡ bit (occurs n numbers) + count (Rattle.books.specs.Books.numbered n) ss
+  pub counted : (n : ℕ) → bit (occurs n (numbers ++ map (λ s. s .number) ss)) ≡ bit (occurs n numbers) + count (numbered n) ss
+
+pub stations-pass : (p : ℕ) (nm : Option Naming) (numbers : List ℕ) (i : ℕ) (ss : List Station) → stationsFault p nm numbers i ss ≡ None → StationsPass nm numbers ss
+stations-pass p nm numbers i [] e =
+    record { positive = tt; held = tt; counted = λ n. let x = ap (λ ms. bit (occurs n ms)) (append-nil numbers) in omega arith }
+stations-pass p nm numbers i (s ∷ ss) e =
+    let parts = both-pass _ _ e in
+    let one = station-passes p nm numbers i s (parts .0) in
+    let rest = stations-pass p nm (numbers ++ s .number ∷ []) (i + 1) ss (parts .1) in
+    record {
+      positive = (one .positive, rest .positive);
+      held = (one .held, rest .held);
+      counted = λ n.
+          let a = rest .counted n in
+          let b = number-counts numbers (s .number) (one .fresh) n in
+          let d = ap (λ ms. bit (occurs n ms)) (append-assoc numbers (s .number ∷ []) (map (λ (t : Station). t .number) ss)) in
+          omega arith;
+    }
