@@ -5,3 +5,4 @@ pub mod Loads
 pub mod Counts
 pub mod Passing
 pub mod Fairness
+pub mod Lawfulness
