@@ -1,6 +1,6 @@
 -- What the two checks of a load say of the whole.
 use mathlib.Core.Path.{_≡_, refl, sym, ap, _∙_}
-use mathlib.Core.Bool.{true, not, cond}
+use mathlib.Core.Bool.{not, cond}
 use mathlib.Core.List.{List, [], _∷_}
 use Prim.Native.Nat.{ℕ}
 use lib.ListN.{replicate}
@@ -22,9 +22,6 @@ module _ (bytes : List ℕ) where
   unfolding loadFault
   pages-decide e = ap (λ o. orElse o (walkFault (pageCount bytes) 0 noNotes [] (pagesIn bytes))) e
 
-  pub loads-from : loadFault bytes ≡ None → loads bytes ≡ true
-  loads-from e = ap (λ o. not (isSome o)) e
-
   pub spelled-is : slotsFrom 0 noNotes (pagesIn bytes) ≡ spelledBook bytes
   unfolding spelledBook
   spelled-is = refl
@@ -38,7 +35,7 @@ module _ (bytes : List ℕ) where
     taken e = ap (λ o. cond (not (isSome o)) new old) (sym e)
 
 -- a page of zeros is a top without entries
-pub zeros-load : loads (replicate 256 0) ≡ true
+pub zeros-load : loadFault (replicate 256 0) ≡ None
 unfolding loadFault
 zeros-load = refl
 

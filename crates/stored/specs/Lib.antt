@@ -4,4 +4,5 @@ pub mod Listed
 pub mod Checks
 pub mod Loading
 pub mod Visits
+pub mod Facts
 pub mod Meaning

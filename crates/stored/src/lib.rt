@@ -4,6 +4,9 @@ mod layout;
 mod load;
 mod naming;
 mod numbers;
+mod source;
 mod stored;
 mod walk;
+
+pub use source::StoredSource;
 pub use stored::Stored;

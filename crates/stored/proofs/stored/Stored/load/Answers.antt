@@ -6,7 +6,8 @@ use Rattle.stations.specs.Faults.{verdict}
 use Rattle.stored.specs.Loading.{spelledBook, pageCount, marks}
 use Rattle.stored.specs.Meaning.{bookOf, pagesOf}
 use Rattle.stored.proofs.Steps.{passed, failed}
-use Rattle.stored.proofs.Loads.{length-refused, pages-decide, loads-from, spelled-is, kept, taken}
+use Rattle.stored.proofs.Loads.{length-refused, pages-decide, spelled-is, kept, taken}
+use Rattle.stored.proofs.Lawfulness.{spelled-length, fair-length, spelled-lawful}
 use Rattle.stored.proofs.stored.Stored.load.Needs as need
 
 pub returns-in-Break-check-length : need.returns-in-Break-check-length
@@ -39,7 +40,8 @@ ghost-self c =
     let bytes = c .args .bytes .now in
     let fine = passed _ (sym (c .check-length .ensures) ∙ c .in-Continue-check-length .was tt) in
     let e = pages-decide bytes fine ∙ passed _ (sym (c .check-pages .ensures .answer) ∙ c .in-Continue-check-pages .was tt) in
-    (loads-from bytes e, (c .check-pages .ensures .marked (c .in-Continue-check-pages .was tt) ∙ ap marks (spelled-is bytes), (omega arith, tt)))
+    let many = fair-length bytes fine in
+    (many .0, (many .1, (spelled-length bytes, (∣ spelled-lawful bytes e ∣₁, (c .check-pages .ensures .marked (c .in-Continue-check-pages .was tt) ∙ ap marks (spelled-is bytes), (omega arith, tt))))))
 
 pub returns : need.returns
 returns c =
