@@ -6,3 +6,4 @@ pub mod Counts
 pub mod Passing
 pub mod Fairness
 pub mod Lawfulness
+pub mod Shown

@@ -4,5 +4,6 @@ pub mod Listed
 pub mod Checks
 pub mod Loading
 pub mod Visits
+pub mod Showing
 pub mod Facts
 pub mod Meaning

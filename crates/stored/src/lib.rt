@@ -4,6 +4,7 @@ mod layout;
 mod load;
 mod naming;
 mod numbers;
+mod showing;
 mod source;
 mod stored;
 mod walk;

@@ -1,7 +1,7 @@
 // A stored book as a page source.
 ghost use mathlib.Core.Path.{_≡_};
 ghost use Rattle.stored.specs.Meaning.{bookOf, pagesOf, meterOf, stored-laws};
-
+use crate::showing::page_at;
 use crate::stored::Stored;
 use crate::walk::PAGE;
 use sources::Page;
@@ -33,6 +33,10 @@ pub impl<'a> PageSource for Stored<'a> as StoredSource {
         if page as usize >= self.bytes.len() / PAGE {
             return Err(Fault { code: Code::PageNumber, first: page, second: 0 });
         }
-        return Err(Fault { code: Code::DeadPage, first: page, second: 0 });
+        let p = page as usize;
+        if !self.live[p] {
+            return Err(Fault { code: Code::DeadPage, first: page, second: 0 });
+        }
+        Ok(page_at(&self.bytes[PAGE * p..PAGE * p + PAGE]))
     }
 }
