@@ -105,7 +105,7 @@ module _ (pages : ℕ) where
       omega arith
 
 -- at first nothing is named
-none-named : (q : ℕ) → isNamed noNotes q ≡ false
+pub none-named : (q : ℕ) → isNamed noNotes q ≡ false
 none-named q = by (cases-lt q 256)
   where
     by : (q < 256) ⊎ (256 ≤ q) → isNamed noNotes q ≡ false

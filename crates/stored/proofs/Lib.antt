@@ -7,3 +7,4 @@ pub mod Passing
 pub mod Fairness
 pub mod Lawfulness
 pub mod Shown
+pub mod Soundness

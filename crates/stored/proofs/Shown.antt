@@ -47,7 +47,7 @@ pub entries-are : (lv : ℕ) (page : List ℕ) → entriesOn (liveSlot lv page) 
 entries-are zero page = map-map entries.Station (λ i. stationAt page (8 + 12 * i)) (counting 0 (countByte page))
 entries-are (suc l) page = map-map entries.Page (λ i. childAt page (8 + 18 * i)) (counting 0 (countByte page))
 
-size-is : (lv : ℕ) (page : List ℕ) → size (liveSlot lv page) ≡ countByte page
+pub size-is : (lv : ℕ) (page : List ℕ) → size (liveSlot lv page) ≡ countByte page
 size-is zero page = length-map-counting (λ i. stationAt page (8 + 12 * i)) 0 (countByte page)
 size-is (suc l) page = length-map-counting (λ i. childAt page (8 + 18 * i)) 0 (countByte page)
 

@@ -3,6 +3,7 @@ pub mod Notes
 pub mod Listed
 pub mod Checks
 pub mod Loading
+pub mod Soundness
 pub mod Visits
 pub mod Showing
 pub mod Facts
