@@ -10,7 +10,11 @@ use lib.ListN.{length, getD, set}
 use Rattle.std.specs.Iters.{counting}
 use Rattle.std.specs.declared.option.Option.{Option}
 use Rattle.std.specs.declared.option.Option.the-variants.{Some, None}
+use Rattle.std.specs.declared.result.Result.{Result}
+use Rattle.std.specs.declared.result.Result.the-variants.{Ok, Err}
 use Rattle.std.specs.Options.{isSome}
+use Rattle.std.specs.Orderings.{Decides}
+use Rattle.std.specs.Results.{isOk}
 use Rattle.std.specs.shelf.Lists.{All, joined}
 use Rattle.std.proofs.shelf.Tests.{and-from, and-parts, or-from, or-left, or-right, or-parts, le-leb, lt-leb, eq-eqb, ne-eqb, eqb-true, ltb-false, le-ltb, not-false, not-true, not-from-true, not-from-false, cases-eq, cases-lt, cases-bool, both-ways}
 use Rattle.std.proofs.shelf.Lists.{getD-set-same, getD-set-other, getD-past, set-past}
@@ -236,16 +240,20 @@ module _ (b : Book) (lawful : Lawful b) where
     where
       s : Slot
       s = slotAt notes p page
+
       here : slot b p ≡ slotAt notes p page
       here = sym (at 0 p (omega arith))
+
       alive : (m : Bool) (t : Slot) → m ≡ true → cond m (live page) dead ≡ t → IsLive t
       alive m t is e = subst IsLive e (subst (λ k. IsLive (cond k (live page) dead)) (sym is) (lives (levelByte page)))
         where
           lives : (lv : ℕ) → IsLive (liveSlot lv page)
           lives zero = tt
           lives (suc l) = tt
+
       padding : isLiveAt notes p page ≡ true → isPadded page ≡ true
       padding is = padded 0 p (omega arith) (alive (isLiveAt notes p page) (slot b p) is (sym here))
+
       clean : Clean (length b) p notes numbers (slotAt notes p page)
       clean =
           record {
@@ -322,3 +330,8 @@ module _ (bytes : List ℕ) where
         padded = padded-here (parts .1);
         lawful = spelled-lawful bytes e;
       }
+
+  -- a refusal is given only where the bytes are not sound
+  pub refused-unsound : (r : Result (Unit {0}) Fault) (f : Fault) → r ≡ Err f → loadFault bytes ≡ Some f → Decides (isOk r) (Sound bytes)
+  refused-unsound r f is e =
+      ((λ ok. absurd (both-ways (isOk r) (ap isOk is) ok)), λ h. let x = sound-loads h in let z : _≡_ {A = ℕ} 0 1 = cc in let no-way : ⊥ = omega arith in absurd no-way)

@@ -36,7 +36,11 @@ impl Place {
         requires { ⌜ entry < 256 ⌝ }
         ensures { λ r. ⌜ r ≡ fault code (self .page) entry ⌝ }
     {
-        Fault { code, first: self.page, second: entry as u32 }
+        Fault {
+            code,
+            first: self.page,
+            second: entry as u32,
+        }
     }
 
     // The page is one level below the page that names it.
@@ -64,7 +68,10 @@ impl Place {
         ensures answer { λ r. ⌜ r ≡ verdict (childFault (self .pages) (self .page) (self .naming) (now (notes .entry)) entry child) ⌝ }
         ensures below { λ r. ⌜ (r ≡ Ok tt → child .page < self .pages) ⌝ }
     {
-        if child.page <= self.page || child.page >= self.pages || notes[child.page as usize].is_some() {
+        if child.page <= self.page
+            || child.page >= self.pages
+            || notes[child.page as usize].is_some()
+        {
             return Err(self.refusal(Code::NamedPage, entry));
         }
         if !child.bounds.is_ordered() {
@@ -90,15 +97,24 @@ impl Place {
     }
 
     // Checks the named pages of a page in turn, and notes each.
-    fn check_children(self, level: u8, notes: &mut [Option<Naming>], page: &[u8]) -> Result<(), Fault>
+    fn check_children(
+        self,
+        level: u8,
+        notes: &mut [Option<Naming>],
+        page: &[u8],
+    ) -> Result<(), Fault>
         requires { ⌜ length (now page) ≡ 256 ⌝ ∗ ⌜ countByte (now page) ≤ 12 ⌝ ∗ ⌜ self .pages ≤ length (now notes) ⌝ }
         ensures answer { λ r. ⌜ r ≡ verdict (childrenFault (self .pages) (self .page) (self .naming) level (now (notes .entry)) 0 (childrenIn (now (page .entry)))) ⌝ }
         ensures noted { λ r. ⌜ (r ≡ Ok tt → now (notes .exit) ≡ noteAll level (now (notes .entry)) (childrenIn (now (page .entry)))) ⌝ }
     {
-        for i in 0..page[1] as usize {
+        let named = page[1] as usize;
+        for i in 0..named {
             let child = child_at(page, 8 + 18 * i);
             self.check_child(notes, i, child)?;
-            notes[child.page as usize] = Some(Naming { level, bounds: child.bounds });
+            notes[child.page as usize] = Some(Naming {
+                level,
+                bounds: child.bounds,
+            });
         }
         Ok(())
     }
@@ -110,7 +126,8 @@ impl Place {
         ensures listed { λ r. ⌜ (r ≡ Ok tt → listed (now (numbers .exit)) ≡ listed (now (numbers .entry)) ++ map (λ s. s .number) (stationsIn (now (page .entry)))) ⌝ }
         ensures few { λ r. ⌜ now (numbers .exit) .len ≤ now (numbers .entry) .len + 12 ⌝ }
     {
-        for i in 0..page[1] as usize {
+        let held = page[1] as usize;
+        for i in 0..held {
             let station = station_at(page, 8 + 12 * i);
             self.check_station(numbers, i, station)?;
             numbers.push(station.number);
@@ -119,7 +136,12 @@ impl Place {
     }
 
     // Checks the entries of a page, stations at level 0 and named pages above.
-    fn check_entries(self, notes: &mut [Option<Naming>], numbers: &mut Numbers, page: &[u8]) -> Result<(), Fault>
+    fn check_entries(
+        self,
+        notes: &mut [Option<Naming>],
+        numbers: &mut Numbers,
+        page: &[u8],
+    ) -> Result<(), Fault>
         requires { ⌜ length (now page) ≡ 256 ⌝ ∗ ⌜ countByte (now page) ≤ 12 ⌝ ∗ ⌜ self .pages ≤ length (now notes) ⌝ ∗ ⌜ now numbers .len + 12 ≤ 3072 ⌝ }
         ensures answer { λ r. ⌜ r ≡ verdict (entriesFault (self .pages) (self .page) (self .naming) (now (notes .entry)) (listed (now (numbers .entry))) (live (now (page .entry)))) ⌝ }
         ensures noted { λ r. ⌜ (r ≡ Ok tt → now (notes .exit) ≡ notesAfter (now (notes .entry)) (live (now (page .entry)))) ⌝ }
@@ -134,7 +156,12 @@ impl Place {
     }
 
     // Checks a live page that counts: its header, its level, its entries in turn.
-    pub fn check_page(self, notes: &mut [Option<Naming>], numbers: &mut Numbers, page: &[u8]) -> Result<(), Fault>
+    pub fn check_page(
+        self,
+        notes: &mut [Option<Naming>],
+        numbers: &mut Numbers,
+        page: &[u8],
+    ) -> Result<(), Fault>
         requires { ⌜ length (now page) ≡ 256 ⌝ ∗ ⌜ self .pages ≤ length (now notes) ⌝ ∗ ⌜ now numbers .len + 12 ≤ 3072 ⌝ }
         ensures answer { λ r. ⌜ r ≡ verdict (pageFault (self .pages) (self .page) (self .naming) (now (notes .entry)) (listed (now (numbers .entry))) (now (page .entry))) ⌝ }
         ensures noted { λ r. ⌜ (r ≡ Ok tt → now (notes .exit) ≡ notesAfter (now (notes .entry)) (live (now (page .entry)))) ⌝ }
@@ -163,5 +190,8 @@ fn is_fair_header(number: u32, page: &[u8]) -> bool
     requires { ⌜ length (now page) ≡ 256 ⌝ }
     ensures { λ r. ⌜ r ≡ isFairHeader number (now (page .entry)) ⌝ }
 {
-    page[0] <= 7 && page[1] <= 12 && is_padded(page) && (page[1] != 0 || number == 0 && page[0] == 0)
+    page[0] <= 7
+        && page[1] <= 12
+        && is_padded(page)
+        && (page[1] != 0 || number == 0 && page[0] == 0)
 }

@@ -26,19 +26,33 @@ pub(crate) fn measures_at(bytes: &[u8], i: usize) -> Measures
     requires { ⌜ i + 8 ≤ length (now bytes) ⌝ }
     ensures { λ r. ⌜ r ≡ measuresAt (now (bytes .entry)) i ⌝ }
 {
-    Measures { m1: short_at(bytes, i), m2: short_at(bytes, i + 2), m3: short_at(bytes, i + 4), m4: short_at(bytes, i + 6) }
+    Measures {
+        m1: short_at(bytes, i),
+        m2: short_at(bytes, i + 2),
+        m3: short_at(bytes, i + 4),
+        m4: short_at(bytes, i + 6),
+    }
 }
 
 pub(crate) fn station_at(bytes: &[u8], i: usize) -> Station
     requires { ⌜ i + 12 ≤ length (now bytes) ⌝ }
     ensures { λ r. ⌜ r ≡ stationAt (now (bytes .entry)) i ⌝ }
 {
-    Station { number: long_at(bytes, i), at: measures_at(bytes, i + 4) }
+    Station {
+        number: long_at(bytes, i),
+        at: measures_at(bytes, i + 4),
+    }
 }
 
 pub(crate) fn child_at(bytes: &[u8], i: usize) -> Child
     requires { ⌜ i + 18 ≤ length (now bytes) ⌝ }
     ensures { λ r. ⌜ r ≡ childAt (now (bytes .entry)) i ⌝ }
 {
-    Child { page: short_at(bytes, i) as u32, bounds: Region { low: measures_at(bytes, i + 2), high: measures_at(bytes, i + 10) } }
+    Child {
+        page: short_at(bytes, i) as u32,
+        bounds: Region {
+            low: measures_at(bytes, i + 2),
+            high: measures_at(bytes, i + 10),
+        },
+    }
 }

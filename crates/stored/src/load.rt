@@ -1,9 +1,12 @@
 ghost use mathlib.Core.Path.{_≡_};
 ghost use mathlib.Core.Bool.{cond};
 ghost use mathlib.Core.List.{[], _∷_};
+ghost use Rattle.std.specs.Orderings.{Decides};
+ghost use Rattle.std.specs.Results.{isOk};
 ghost use Rattle.stations.specs.Faults.{verdict};
 ghost use Rattle.books.specs.Books.{leaf};
 ghost use Rattle.stored.specs.Loading.{loadFault, loads, spelledBook, pageCount};
+ghost use Rattle.stored.specs.Soundness.{Sound};
 ghost use Rattle.stored.specs.Meaning.{bookOf, pagesOf, meterOf};
 use crate::stored::Stored;
 use crate::walk::check_length;
@@ -22,12 +25,17 @@ impl<'a> Stored<'a> {
     {
         let mut live = [false; 256];
         live[0] = true;
-        Stored { bytes: &EMPTY_PAGE, live, meter: 0 }
+        Stored {
+            bytes: &EMPTY_PAGE,
+            live,
+            meter: 0,
+        }
     }
 
     // Takes another book, or refuses it and keeps the former one. The meter goes on in either case.
     pub fn load(&mut self, bytes: &'a [u8]) -> Result<(), Fault>
         ensures answer { λ r. ⌜ r ≡ verdict (loadFault (now (bytes .entry))) ⌝ }
+        ensures sound { λ r. ⌜ Decides (isOk r) (Sound (now (bytes .entry))) ⌝ }
         ensures book { λ _. ⌜ bookOf (now (self .exit)) ≡ cond (loads (now (bytes .entry))) (spelledBook (now (bytes .entry))) (bookOf (now (self .entry))) ⌝ }
         ensures pages { λ _. ⌜ pagesOf (now (self .exit)) ≡ cond (loads (now (bytes .entry))) (pageCount (now (bytes .entry))) (pagesOf (now (self .entry))) ⌝ }
         ensures meter { λ _. ⌜ meterOf (now (self .exit)) ≡ meterOf (now (self .entry)) ⌝ }

@@ -19,7 +19,10 @@ impl Numbers {
         ensures none { λ r. ⌜ listed r ≡ [] ⌝ }
         ensures start { λ r. ⌜ r .len ≡ 0 ⌝ }
     {
-        Numbers { all: [0; 3072], len: 0 }
+        Numbers {
+            all: [0; 3072],
+            len: 0,
+        }
     }
 
     pub fn has(&self, number: u32) -> bool

@@ -25,8 +25,16 @@ fn entry_at(page: &[u8], i: usize) -> Entry
 
 // Every place holds a station 0 until an entry is put there.
 fn no_entries() -> [Entry; 12] {
-    let nowhere = Measures { m1: 0, m2: 0, m3: 0, m4: 0 };
-    [Entry::Station(Station { number: 0, at: nowhere }); 12]
+    let nowhere = Measures {
+        m1: 0,
+        m2: 0,
+        m3: 0,
+        m4: 0,
+    };
+    [Entry::Station(Station {
+        number: 0,
+        at: nowhere,
+    }); 12]
 }
 
 pub fn page_at(page: &[u8]) -> Page
@@ -38,5 +46,9 @@ pub fn page_at(page: &[u8]) -> Page
     for i in 0..len {
         entries[i] = entry_at(page, i);
     }
-    Page { level: page[0], len, entries }
+    Page {
+        level: page[0],
+        len,
+        entries,
+    }
 }

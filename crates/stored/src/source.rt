@@ -31,11 +31,19 @@ pub impl<'a> PageSource for Stored<'a> as StoredSource {
     fn read(&mut self, page: u32) -> Result<Page, Fault> {
         self.meter = self.meter.wrapping_add(1);
         if page as usize >= self.bytes.len() / PAGE {
-            return Err(Fault { code: Code::PageNumber, first: page, second: 0 });
+            return Err(Fault {
+                code: Code::PageNumber,
+                first: page,
+                second: 0,
+            });
         }
         let p = page as usize;
         if !self.live[p] {
-            return Err(Fault { code: Code::DeadPage, first: page, second: 0 });
+            return Err(Fault {
+                code: Code::DeadPage,
+                first: page,
+                second: 0,
+            });
         }
         Ok(page_at(&self.bytes[PAGE * p..PAGE * p + PAGE]))
     }

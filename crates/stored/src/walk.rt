@@ -35,7 +35,13 @@ fn is_live_at(notes: &[Option<Naming>], p: usize, page: &[u8]) -> bool
 }
 
 // Checks a page if it counts and is not dead, and says whether it can be read.
-fn visit(p: usize, pages: usize, notes: &mut [Option<Naming>], numbers: &mut Numbers, page: &[u8]) -> Result<bool, Fault>
+fn visit(
+    p: usize,
+    pages: usize,
+    notes: &mut [Option<Naming>],
+    numbers: &mut Numbers,
+    page: &[u8],
+) -> Result<bool, Fault>
     requires { ⌜ p < pages ⌝ ∗ ⌜ pages ≤ 256 ⌝ ∗ ⌜ length (now notes) ≡ 256 ⌝ ∗ ⌜ length (now page) ≡ 256 ⌝ ∗ ⌜ now numbers .len + 12 ≤ 3072 ⌝ }
     ensures answer { λ r. ⌜ r ≡ visited (visitFault pages p (now (notes .entry)) (listed (now (numbers .entry))) (now (page .entry))) (isLiveAt (now (notes .entry)) p (now (page .entry))) ⌝ }
     ensures noted { λ r. ⌜ (isOk r ≡ true → now (notes .exit) ≡ notesAfter (now (notes .entry)) (slotAt (now (notes .entry)) p (now (page .entry)))) ⌝ }
@@ -45,7 +51,11 @@ fn visit(p: usize, pages: usize, notes: &mut [Option<Naming>], numbers: &mut Num
     if !is_live_at(notes, p, page) {
         return Ok(false);
     }
-    let place = Place { page: p as u32, pages: pages as u32, naming: notes[p] };
+    let place = Place {
+        page: p as u32,
+        pages: pages as u32,
+        naming: notes[p],
+    };
     place.check_page(notes, numbers, page)?;
     Ok(true)
 }
@@ -55,7 +65,11 @@ pub fn check_length(bytes: &[u8]) -> Result<(), Fault>
     ensures { λ r. ⌜ r ≡ verdict (lengthFault (now (bytes .entry))) ⌝ }
 {
     if bytes.len() % PAGE != 0 || bytes.len() < PAGE || bytes.len() > MOST_BYTES {
-        return Err(Fault { code: Code::BookLength, first: 0, second: 0 });
+        return Err(Fault {
+            code: Code::BookLength,
+            first: 0,
+            second: 0,
+        });
     }
     Ok(())
 }
@@ -70,7 +84,13 @@ pub fn check_pages(bytes: &[u8], live: &mut [bool]) -> Result<(), Fault>
     let mut notes: [Option<Naming>; 256] = [None; 256];
     let mut numbers = Numbers::new();
     for p in 0..pages {
-        live[p] = visit(p, pages, &mut notes, &mut numbers, &bytes[PAGE * p..PAGE * p + PAGE])?;
+        live[p] = visit(
+            p,
+            pages,
+            &mut notes,
+            &mut numbers,
+            &bytes[PAGE * p..PAGE * p + PAGE],
+        )?;
     }
     Ok(())
 }

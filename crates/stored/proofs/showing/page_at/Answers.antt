@@ -13,9 +13,10 @@ loop-i-again c =
     let page = c .args .page .now in
     let i = c .loop-i .i in
     let few = c .pre .1 in
-    let fit = c .typed .page 1 in
-    (entries-more page (c .loop-i .entries) i (c .entry-at .result) (omega arith) (c .entry-at .ensures) (c .loop-i .inv .0),
-    length-set (c .loop-i .entries) i (c .entry-at .result) ∙ c .loop-i .inv .1)
+    let fit = c .typed .page 1 in (
+      entries-more page (c .loop-i .entries) i (c .entry-at .result) (omega arith) (c .entry-at .ensures) (c .loop-i .inv .0),
+      length-set (c .loop-i .entries) i (c .entry-at .result) ∙ c .loop-i .inv .1,
+    )
 
 pub returns : need.returns
 returns c =

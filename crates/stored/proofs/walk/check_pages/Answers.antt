@@ -36,13 +36,14 @@ loop-p-again c =
     let full : 256 * p + 256 - 256 * p ≡ 256 = omega arith in
     let fine = ap isOk (c .in-Continue-live .was tt) in
     let e = visit-passed _ _ _ (sym (c .visit .ensures .answer) ∙ c .in-Continue-live .was tt) in
-    let noted = c .visit .ensures .noted fine in
-    (walk-on bytes p (c .loop-p .notes) (listed (c .loop-p .numbers)) (c .loop-p-test .taken) (256 * p + 256 - 256 * p) full (c .visit .last .notes) noted (listed (c .visit .last .numbers)) (e .0) (c .visit .ensures .listed fine)
-    ∙ c .loop-p .inv .0,
-    marks-on bytes p (c .loop-p .notes) (listed (c .loop-p .numbers)) (c .loop-p-test .taken) (256 * p + 256 - 256 * p) full (c .visit .last .notes) noted (c .loop-p .live) (c .in-Continue-live .field-0) (omega arith) (e .1)
-    ∙ c .loop-p .inv .1,
-    omega arith,
-    omega arith)
+    let noted = c .visit .ensures .noted fine in (
+      walk-on bytes p (c .loop-p .notes) (listed (c .loop-p .numbers)) (c .loop-p-test .taken) (256 * p + 256 - 256 * p) full (c .visit .last .notes) noted (listed (c .visit .last .numbers)) (e .0) (c .visit .ensures .listed fine)
+          ∙ c .loop-p .inv .0,
+      marks-on bytes p (c .loop-p .notes) (listed (c .loop-p .numbers)) (c .loop-p-test .taken) (256 * p + 256 - 256 * p) full (c .visit .last .notes) noted (c .loop-p .live) (c .in-Continue-live .field-0) (omega arith) (e .1)
+          ∙ c .loop-p .inv .1,
+      omega arith,
+      omega arith,
+    )
 
 pub returns : need.returns
 returns c =

@@ -11,7 +11,7 @@ use Rattle.stored.proofs.walk.check_pages.Given as given
 abbrev pub Inv-loop-p : given.InvT-loop-p
 Inv-loop-p l =
     (walkFault (pageCount (l .bytes)) (l .p) (l .notes) (listed (l .numbers)) (drop (l .p) (pagesIn (l .bytes)))
-     ≡ walkFault (pageCount (l .bytes)) 0 noNotes [] (pagesIn (l .bytes)))
+    ≡ walkFault (pageCount (l .bytes)) 0 noNotes [] (pagesIn (l .bytes)))
     × (take (l .p) (l .live) ++ marks (slotsFrom (l .p) (l .notes) (drop (l .p) (pagesIn (l .bytes)))) ≡ marks (slotsFrom 0 noNotes (pagesIn (l .bytes))))
     × (l .numbers .len ≤ 12 * l .p)
     × (length (l .notes) ≡ 256)

@@ -26,9 +26,10 @@ loop-i-again c =
     let page = c .args .page .now in
     let i = c .loop-i .i in
     let below : i < countByte page = omega (arith, c .typed .page 1) in
-    let fine = sym (c .check-child .ensures .answer) ∙ c .in-Continue-check-child .was tt in
-    (child-passed (s .pages) (s .page) (s .naming) (c .args .level) page (c .loop-i .notes) i (c .child-at-child .result) below (c .child-at-child .ensures) fine ∙ c .loop-i .inv .0,
-    child-noted (s .pages) (s .page) (s .naming) (c .args .level) page (c .loop-i .notes) i (c .child-at-child .result) below (c .child-at-child .ensures) ∙ c .loop-i .inv .1)
+    let fine = sym (c .check-child .ensures .answer) ∙ c .in-Continue-check-child .was tt in (
+      child-passed (s .pages) (s .page) (s .naming) (c .args .level) page (c .loop-i .notes) i (c .child-at-child .result) below (c .child-at-child .ensures) fine ∙ c .loop-i .inv .0,
+      child-noted (s .pages) (s .page) (s .naming) (c .args .level) page (c .loop-i .notes) i (c .child-at-child .result) below (c .child-at-child .ensures) ∙ c .loop-i .inv .1,
+    )
 
 pub returns : need.returns
 returns c =

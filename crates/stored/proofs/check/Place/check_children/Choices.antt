@@ -9,5 +9,5 @@ use Rattle.stored.proofs.check.Place.check_children.Given as given
 abbrev pub Inv-loop-i : given.InvT-loop-i
 Inv-loop-i l =
     (childrenFault (l .self .pages) (l .self .page) (l .self .naming) (l .level) (l .notes) (l .i) (drop (l .i) (childrenIn (l .page)))
-     ≡ childrenFault (l .self .pages) (l .self .page) (l .self .naming) (l .level) (l .entry .notes) 0 (childrenIn (l .page)))
+    ≡ childrenFault (l .self .pages) (l .self .page) (l .self .naming) (l .level) (l .entry .notes) 0 (childrenIn (l .page)))
     × (noteAll (l .level) (l .notes) (drop (l .i) (childrenIn (l .page))) ≡ noteAll (l .level) (l .entry .notes) (childrenIn (l .page)))

@@ -31,14 +31,15 @@ loop-i-again c =
     let page = c .args .page .now in
     let i = c .loop-i .i in
     let below : i < countByte page = omega (arith, c .typed .page 1) in
-    let fine = sym (c .check-station .ensures) ∙ c .in-Continue-check-station .was tt in
-    (ap (λ ns. stationsFault (s .page) (s .naming) ns (i + 1) (drop (i + 1) (stationsIn page))) (c .push .ensures .list)
-    ∙ station-passed (s .page) (s .naming) page (listed (c .loop-i .numbers)) i (c .station-at-station .result) below (c .station-at-station .ensures) fine
-    ∙ c .loop-i .inv .0,
-    ap (λ ns. ns ++ map (λ (t : Station). t .number) (drop (i + 1) (stationsIn page))) (c .push .ensures .list)
-    ∙ station-listed (s .page) (s .naming) page (listed (c .loop-i .numbers)) i (c .station-at-station .result) below (c .station-at-station .ensures)
-    ∙ c .loop-i .inv .1,
-    omega arith)
+    let fine = sym (c .check-station .ensures) ∙ c .in-Continue-check-station .was tt in (
+      ap (λ ns. stationsFault (s .page) (s .naming) ns (i + 1) (drop (i + 1) (stationsIn page))) (c .push .ensures .list)
+          ∙ station-passed (s .page) (s .naming) page (listed (c .loop-i .numbers)) i (c .station-at-station .result) below (c .station-at-station .ensures) fine
+          ∙ c .loop-i .inv .0,
+      ap (λ ns. ns ++ map (λ (t : Station). t .number) (drop (i + 1) (stationsIn page))) (c .push .ensures .list)
+          ∙ station-listed (s .page) (s .naming) page (listed (c .loop-i .numbers)) i (c .station-at-station .result) below (c .station-at-station .ensures)
+          ∙ c .loop-i .inv .1,
+      omega arith,
+    )
 
 pub returns : need.returns
 returns c =

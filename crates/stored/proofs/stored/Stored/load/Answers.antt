@@ -8,6 +8,7 @@ use Rattle.stored.specs.Meaning.{bookOf, pagesOf}
 use Rattle.stored.proofs.Steps.{passed, failed}
 use Rattle.stored.proofs.Loads.{length-refused, pages-decide, spelled-is, kept, taken}
 use Rattle.stored.proofs.Lawfulness.{spelled-length, fair-length, spelled-lawful}
+use Rattle.stored.proofs.Soundness.{loads-sound, refused-unsound}
 use Rattle.stored.proofs.stored.Stored.load.Needs as need
 
 pub returns-in-Break-check-length : need.returns-in-Break-check-length
@@ -15,8 +16,10 @@ returns-in-Break-check-length c =
     let bytes = c .args .bytes .now in
     let p = err-from-errBy (c .from-residual .result) (c .from-residual .ensures .1) in
     let e = length-refused bytes _ (failed _ _ (sym (c .check-length .ensures) ∙ c .in-Break-check-length .was tt)) in
+    let r = p .1 ∙ ap Err (p .2) in
     record {
-      answer = p .1 ∙ ap Err (p .2) ∙ ap verdict (sym e);
+      answer = r ∙ ap verdict (sym e);
+      sound = refused-unsound bytes _ _ r e;
       book = kept bytes (spelledBook bytes) (bookOf (c .args .self .now)) _ e;
       pages = kept bytes (pageCount bytes) (pagesOf (c .args .self .now)) _ e;
       meter = refl;
@@ -28,8 +31,10 @@ returns-in-Break-check-pages c =
     let p = err-from-errBy (c .from-residual-in-Break-check-pages .result) (c .from-residual-in-Break-check-pages .ensures .1) in
     let fine = passed _ (sym (c .check-length .ensures) ∙ c .in-Continue-check-length .was tt) in
     let e = pages-decide bytes fine ∙ failed _ _ (sym (c .check-pages .ensures .answer) ∙ c .in-Break-check-pages .was tt) in
+    let r = p .1 ∙ ap Err (p .2) in
     record {
-      answer = p .1 ∙ ap Err (p .2) ∙ ap verdict (sym e);
+      answer = r ∙ ap verdict (sym e);
+      sound = refused-unsound bytes _ _ r e;
       book = kept bytes (spelledBook bytes) (bookOf (c .args .self .now)) _ e;
       pages = kept bytes (pageCount bytes) (pagesOf (c .args .self .now)) _ e;
       meter = refl;
@@ -50,6 +55,7 @@ returns c =
     let e = pages-decide bytes fine ∙ passed _ (sym (c .check-pages .ensures .answer) ∙ c .in-Continue-check-pages .was tt) in
     record {
       answer = ap verdict (sym e);
+      sound = ((λ _. loads-sound bytes e), λ _. refl);
       book = taken bytes (spelledBook bytes) (bookOf (c .args .self .now)) e;
       pages = taken bytes (pageCount bytes) (pagesOf (c .args .self .now)) e;
       meter = refl;
