@@ -9,6 +9,11 @@ ghost use Rattle.stored.specs.Layout.{levelByte, countByte, stationsIn, childr
 ghost use Rattle.stored.specs.Notes.{noteAll, notesAfter, numbersAfter};
 ghost use Rattle.stored.specs.Listed.{listed};
 ghost use Rattle.stored.specs.Checks.{isFairHeader, isBelow, isWithin, childFault, stationFault, childrenFault, stationsFault, entriesFault, pageFault};
+use crate::layout::CHILD;
+use crate::layout::COUNT;
+use crate::layout::ENTRIES;
+use crate::layout::LEVEL;
+use crate::layout::STATION;
 use crate::layout::child_at;
 use crate::layout::station_at;
 use crate::naming::Naming;
@@ -19,15 +24,19 @@ use stations::Fault;
 use stations::Measures;
 use stations::Station;
 
+// The highest level of a page, and the most entries that it may have.
+const TOP_LEVEL: u8 = 7;
+const MOST_ENTRIES: u8 = 12;
+
 // The second place of a refusal that is of a page and not of an entry.
 const WHOLE_PAGE: usize = 255;
 
 // Where a page stands: its number, the page count, and how it was named.
 #[derive(Clone, Copy)]
-pub struct Place {
-    pub page: u32,
-    pub pages: u32,
-    pub naming: Option<Naming>,
+pub(crate) struct Place {
+    pub(crate) page: u32,
+    pub(crate) pages: u32,
+    pub(crate) naming: Option<Naming>,
 }
 
 impl Place {
@@ -107,9 +116,9 @@ impl Place {
         ensures answer { λ r. ⌜ r ≡ verdict (childrenFault (self .pages) (self .page) (self .naming) level (now (notes .entry)) 0 (childrenIn (now (page .entry)))) ⌝ }
         ensures noted { λ r. ⌜ (r ≡ Ok tt → now (notes .exit) ≡ noteAll level (now (notes .entry)) (childrenIn (now (page .entry)))) ⌝ }
     {
-        let named = page[1] as usize;
+        let named = page[COUNT] as usize;
         for i in 0..named {
-            let child = child_at(page, 8 + 18 * i);
+            let child = child_at(page, ENTRIES + CHILD * i);
             self.check_child(notes, i, child)?;
             notes[child.page as usize] = Some(Naming {
                 level,
@@ -126,9 +135,9 @@ impl Place {
         ensures listed { λ r. ⌜ (r ≡ Ok tt → listed (now (numbers .exit)) ≡ listed (now (numbers .entry)) ++ map (λ s. s .number) (stationsIn (now (page .entry)))) ⌝ }
         ensures few { λ r. ⌜ now (numbers .exit) .len ≤ now (numbers .entry) .len + 12 ⌝ }
     {
-        let held = page[1] as usize;
+        let held = page[COUNT] as usize;
         for i in 0..held {
-            let station = station_at(page, 8 + 12 * i);
+            let station = station_at(page, ENTRIES + STATION * i);
             self.check_station(numbers, i, station)?;
             numbers.push(station.number);
         }
@@ -148,15 +157,15 @@ impl Place {
         ensures listed { λ r. ⌜ (r ≡ Ok tt → listed (now (numbers .exit)) ≡ numbersAfter (listed (now (numbers .entry))) (live (now (page .entry)))) ⌝ }
         ensures few { λ r. ⌜ now (numbers .exit) .len ≤ now (numbers .entry) .len + 12 ⌝ }
     {
-        if page[0] == 0 {
+        if page[LEVEL] == 0 {
             self.check_stations(numbers, page)
         } else {
-            self.check_children(page[0], notes, page)
+            self.check_children(page[LEVEL], notes, page)
         }
     }
 
     // Checks a live page that counts: its header, its level, its entries in turn.
-    pub fn check_page(
+    pub(crate) fn check_page(
         self,
         notes: &mut [Option<Naming>],
         numbers: &mut Numbers,
@@ -171,7 +180,7 @@ impl Place {
         if !is_fair_header(self.page, page) {
             return Err(self.refusal(Code::PageHeader, WHOLE_PAGE));
         }
-        if !self.fits_level(page[0]) {
+        if !self.fits_level(page[LEVEL]) {
             return Err(self.refusal(Code::PageLevel, WHOLE_PAGE));
         }
         self.check_entries(notes, numbers, page)
@@ -190,8 +199,8 @@ fn is_fair_header(number: u32, page: &[u8]) -> bool
     requires { ⌜ length (now page) ≡ 256 ⌝ }
     ensures { λ r. ⌜ r ≡ isFairHeader number (now (page .entry)) ⌝ }
 {
-    page[0] <= 7
-        && page[1] <= 12
+    page[LEVEL] <= TOP_LEVEL
+        && page[COUNT] <= MOST_ENTRIES
         && is_padded(page)
-        && (page[1] != 0 || number == 0 && page[0] == 0)
+        && (page[COUNT] != 0 || number == 0 && page[LEVEL] == 0)
 }

@@ -8,6 +8,21 @@ use stations::Measures;
 use stations::Region;
 use stations::Station;
 
+// The bytes of a page.
+pub(crate) const PAGE: usize = 256;
+
+// The places of the level and of the entry count, and where the entries begin.
+pub(crate) const LEVEL: usize = 0;
+pub(crate) const COUNT: usize = 1;
+pub(crate) const ENTRIES: usize = 8;
+
+// The bytes of a station, and of a named page.
+pub(crate) const STATION: usize = 12;
+pub(crate) const CHILD: usize = 18;
+
+// The level of a dead page.
+pub(crate) const DEAD: u8 = 255;
+
 pub(crate) fn short_at(bytes: &[u8], i: usize) -> u16
     requires { ⌜ i + 2 ≤ length (now bytes) ⌝ }
     ensures { λ r. ⌜ r ≡ shortAt (now (bytes .entry)) i ⌝ }

@@ -6,16 +6,16 @@ ghost use Rattle.stored.specs.Notes.{occurs};
 ghost use Rattle.stored.specs.Listed.{listed};
 
 // Twelve for each of 256 pages.
-pub const MOST_NUMBERS: usize = 3072;
+pub(crate) const MOST_NUMBERS: usize = 3072;
 
 #[derive(Drop)]
-pub struct Numbers {
-    pub all: [u32; 3072],
-    pub len: usize,
+pub(crate) struct Numbers {
+    pub(crate) all: [u32; 3072],
+    pub(crate) len: usize,
 }
 
 impl Numbers {
-    pub fn new() -> Numbers
+    pub(crate) fn new() -> Numbers
         ensures none { λ r. ⌜ listed r ≡ [] ⌝ }
         ensures start { λ r. ⌜ r .len ≡ 0 ⌝ }
     {
@@ -25,14 +25,14 @@ impl Numbers {
         }
     }
 
-    pub fn has(&self, number: u32) -> bool
+    pub(crate) fn has(&self, number: u32) -> bool
         requires { ⌜ now self .len ≤ 3072 ⌝ }
         ensures { λ r. ⌜ r ≡ occurs number (listed (now (self .entry))) ⌝ }
     {
         has_number(&self.all[0..self.len], number)
     }
 
-    pub fn push(&mut self, number: u32)
+    pub(crate) fn push(&mut self, number: u32)
         requires { ⌜ now self .len < 3072 ⌝ }
         ensures list { λ _. ⌜ listed (now (self .exit)) ≡ listed (now (self .entry)) ++ number ∷ [] ⌝ }
         ensures more { λ _. ⌜ now (self .exit) .len ≡ now (self .entry) .len + 1 ⌝ }

@@ -5,6 +5,11 @@ ghost use lib.ListN.{length};
 ghost use Rattle.sources.specs.Sources.{Shows};
 ghost use Rattle.stored.specs.Layout.{levelByte, countByte, live};
 ghost use Rattle.stored.specs.Showing.{entryAt};
+use crate::layout::CHILD;
+use crate::layout::COUNT;
+use crate::layout::ENTRIES;
+use crate::layout::LEVEL;
+use crate::layout::STATION;
 use crate::layout::child_at;
 use crate::layout::station_at;
 use books::Entry;
@@ -16,10 +21,10 @@ fn entry_at(page: &[u8], i: usize) -> Entry
     requires { ⌜ length (now page) ≡ 256 ⌝ ∗ ⌜ i < 12 ⌝ }
     ensures { λ r. ⌜ r ≡ entryAt (levelByte (now (page .entry))) (now (page .entry)) i ⌝ }
 {
-    if page[0] == 0 {
-        Entry::Station(station_at(page, 8 + 12 * i))
+    if page[LEVEL] == 0 {
+        Entry::Station(station_at(page, ENTRIES + STATION * i))
     } else {
-        Entry::Page(child_at(page, 8 + 18 * i))
+        Entry::Page(child_at(page, ENTRIES + CHILD * i))
     }
 }
 
@@ -37,17 +42,17 @@ fn no_entries() -> [Entry; 12] {
     }); 12]
 }
 
-pub fn page_at(page: &[u8]) -> Page
+pub(crate) fn page_at(page: &[u8]) -> Page
     requires { ⌜ length (now page) ≡ 256 ⌝ ∗ ⌜ countByte (now page) ≤ 12 ⌝ }
     ensures { λ r. ⌜ Shows (live (now (page .entry))) r ⌝ }
 {
     let mut entries = no_entries();
-    let len = page[1] as usize;
+    let len = page[COUNT] as usize;
     for i in 0..len {
         entries[i] = entry_at(page, i);
     }
     Page {
-        level: page[0],
+        level: page[LEVEL],
         len,
         entries,
     }

@@ -1,9 +1,9 @@
 // A stored book as a page source.
 ghost use mathlib.Core.Path.{_≡_};
 ghost use Rattle.stored.specs.Meaning.{bookOf, pagesOf, meterOf, stored-laws};
+use crate::layout::PAGE;
 use crate::showing::page_at;
 use crate::stored::Stored;
-use crate::walk::PAGE;
 use sources::Page;
 use sources::PageSource;
 use stations::Code;

@@ -12,26 +12,23 @@ ghost use Rattle.stored.specs.Listed.{listed};
 ghost use Rattle.stored.specs.Loading.{pageCount, pagesIn, isLiveAt, slotAt, slotsFrom, visitFault, walkFault, lengthFault, marks};
 ghost use Rattle.stored.specs.Visits.{visited};
 use crate::check::Place;
+use crate::layout::DEAD;
+use crate::layout::LEVEL;
+use crate::layout::PAGE;
 use crate::naming::Naming;
 use crate::numbers::Numbers;
 use stations::Code;
 use stations::Fault;
 
-// The bytes of a page.
-pub const PAGE: usize = 256;
-
 // The most bytes of a book.
 const MOST_BYTES: usize = 65536;
-
-// The first byte of a dead page.
-const DEAD: u8 = 255;
 
 // The page is the top or a page before it names it, and it is not dead.
 fn is_live_at(notes: &[Option<Naming>], p: usize, page: &[u8]) -> bool
     requires { ⌜ length (now page) ≡ 256 ⌝ ∗ ⌜ p < length (now notes) ⌝ }
     ensures { λ r. ⌜ r ≡ isLiveAt (now (notes .entry)) p (now (page .entry)) ⌝ }
 {
-    (p == 0 || notes[p].is_some()) && page[0] != DEAD
+    (p == 0 || notes[p].is_some()) && page[LEVEL] != DEAD
 }
 
 // Checks a page if it counts and is not dead, and says whether it can be read.
@@ -61,7 +58,7 @@ fn visit(
 }
 
 // Refuses a length that is not that of 1 to 256 pages.
-pub fn check_length(bytes: &[u8]) -> Result<(), Fault>
+pub(crate) fn check_length(bytes: &[u8]) -> Result<(), Fault>
     ensures { λ r. ⌜ r ≡ verdict (lengthFault (now (bytes .entry))) ⌝ }
 {
     if bytes.len() % PAGE != 0 || bytes.len() < PAGE || bytes.len() > MOST_BYTES {
@@ -75,7 +72,7 @@ pub fn check_length(bytes: &[u8]) -> Result<(), Fault>
 }
 
 // Checks the pages in turn, and marks those that can be read.
-pub fn check_pages(bytes: &[u8], live: &mut [bool]) -> Result<(), Fault>
+pub(crate) fn check_pages(bytes: &[u8], live: &mut [bool]) -> Result<(), Fault>
     requires { ⌜ pageCount (now bytes) ≤ 256 ⌝ ∗ ⌜ length (now live) ≡ 256 ⌝ }
     ensures answer { λ r. ⌜ r ≡ verdict (walkFault (pageCount (now (bytes .entry))) 0 noNotes [] (pagesIn (now (bytes .entry)))) ⌝ }
     ensures marked { λ r. ⌜ (r ≡ Ok tt → take (pageCount (now (bytes .entry))) (now (live .exit)) ≡ marks (slotsFrom 0 noNotes (pagesIn (now (bytes .entry))))) ⌝ }
