@@ -26,6 +26,7 @@ use stations::Station;
 
 // The highest level of a page, and the most entries that it may have.
 const TOP_LEVEL: u8 = 7;
+
 const MOST_ENTRIES: u8 = 12;
 
 // The second place of a refusal that is of a page and not of an entry.

@@ -11,13 +11,19 @@ use stations::Station;
 // The bytes of a page.
 pub(crate) const PAGE: usize = 256;
 
+// The most pages of a book.
+pub(crate) const MOST_PAGES: usize = 256;
+
 // The places of the level and of the entry count, and where the entries begin.
 pub(crate) const LEVEL: usize = 0;
+
 pub(crate) const COUNT: usize = 1;
+
 pub(crate) const ENTRIES: usize = 8;
 
 // The bytes of a station, and of a named page.
 pub(crate) const STATION: usize = 12;
+
 pub(crate) const CHILD: usize = 18;
 
 // The level of a dead page.

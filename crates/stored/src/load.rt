@@ -8,13 +8,15 @@ ghost use Rattle.books.specs.Books.{leaf};
 ghost use Rattle.stored.specs.Loading.{loadFault, loads, spelledBook, pageCount};
 ghost use Rattle.stored.specs.Soundness.{Sound};
 ghost use Rattle.stored.specs.Meaning.{bookOf, pagesOf, meterOf};
+use crate::layout::MOST_PAGES;
+use crate::layout::PAGE;
 use crate::stored::Stored;
 use crate::walk::check_length;
 use crate::walk::check_pages;
 use stations::Fault;
 
 // A page of level 0 without entries.
-const EMPTY_PAGE: [u8; 256] = [0; 256];
+const EMPTY_PAGE: [u8; PAGE] = [0; PAGE];
 
 impl<'a> Stored<'a> {
     // The book of one page of level 0 without entries.
@@ -23,7 +25,7 @@ impl<'a> Stored<'a> {
         ensures pages { λ r. ⌜ pagesOf r ≡ 1 ⌝ }
         ensures meter { λ r. ⌜ meterOf r ≡ 0 ⌝ }
     {
-        let mut live = [false; 256];
+        let mut live = [false; MOST_PAGES];
         live[0] = true;
         Stored {
             bytes: &EMPTY_PAGE,
@@ -41,7 +43,7 @@ impl<'a> Stored<'a> {
         ensures meter { λ _. ⌜ meterOf (now (self .exit)) ≡ meterOf (now (self .entry)) ⌝ }
     {
         check_length(bytes)?;
-        let mut live = [false; 256];
+        let mut live = [false; MOST_PAGES];
         check_pages(bytes, &mut live)?;
         self.bytes = bytes;
         self.live = live;

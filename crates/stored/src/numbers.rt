@@ -6,11 +6,11 @@ ghost use Rattle.stored.specs.Notes.{occurs};
 ghost use Rattle.stored.specs.Listed.{listed};
 
 // Twelve for each of 256 pages.
-pub(crate) const MOST_NUMBERS: usize = 3072;
+const MOST_NUMBERS: usize = 3072;
 
 #[derive(Drop)]
 pub(crate) struct Numbers {
-    pub(crate) all: [u32; 3072],
+    pub(crate) all: [u32; MOST_NUMBERS],
     pub(crate) len: usize,
 }
 
@@ -20,7 +20,7 @@ impl Numbers {
         ensures start { λ r. ⌜ r .len ≡ 0 ⌝ }
     {
         Numbers {
-            all: [0; 3072],
+            all: [0; MOST_NUMBERS],
             len: 0,
         }
     }

@@ -1,6 +1,7 @@
 // A stored book as a page source.
 ghost use mathlib.Core.Path.{_≡_};
 ghost use Rattle.stored.specs.Meaning.{bookOf, pagesOf, meterOf, stored-laws};
+use crate::layout::MOST_PAGES;
 use crate::layout::PAGE;
 use crate::showing::page_at;
 use crate::stored::Stored;
@@ -10,7 +11,7 @@ use stations::Code;
 use stations::Fault;
 
 pub impl<'a> PageSource for Stored<'a> as StoredSource {
-    const MOST_PAGES: usize = 256;
+    const MOST_PAGES: usize = MOST_PAGES;
 
     ghost limit = { 256 };
 

@@ -14,14 +14,12 @@ ghost use Rattle.stored.specs.Visits.{visited};
 use crate::check::Place;
 use crate::layout::DEAD;
 use crate::layout::LEVEL;
+use crate::layout::MOST_PAGES;
 use crate::layout::PAGE;
 use crate::naming::Naming;
 use crate::numbers::Numbers;
 use stations::Code;
 use stations::Fault;
-
-// The most bytes of a book.
-const MOST_BYTES: usize = 65536;
 
 // The page is the top or a page before it names it, and it is not dead.
 fn is_live_at(notes: &[Option<Naming>], p: usize, page: &[u8]) -> bool
@@ -61,7 +59,7 @@ fn visit(
 pub(crate) fn check_length(bytes: &[u8]) -> Result<(), Fault>
     ensures { λ r. ⌜ r ≡ verdict (lengthFault (now (bytes .entry))) ⌝ }
 {
-    if bytes.len() % PAGE != 0 || bytes.len() < PAGE || bytes.len() > MOST_BYTES {
+    if bytes.len() % PAGE != 0 || bytes.len() < PAGE || bytes.len() > PAGE * MOST_PAGES {
         return Err(Fault {
             code: Code::BookLength,
             first: 0,
@@ -78,7 +76,7 @@ pub(crate) fn check_pages(bytes: &[u8], live: &mut [bool]) -> Result<(), Fault>
     ensures marked { λ r. ⌜ (r ≡ Ok tt → take (pageCount (now (bytes .entry))) (now (live .exit)) ≡ marks (slotsFrom 0 noNotes (pagesIn (now (bytes .entry))))) ⌝ }
 {
     let pages = bytes.len() / PAGE;
-    let mut notes: [Option<Naming>; 256] = [None; 256];
+    let mut notes: [Option<Naming>; MOST_PAGES] = [None; MOST_PAGES];
     let mut numbers = Numbers::new();
     for p in 0..pages {
         live[p] = visit(
