@@ -20,9 +20,9 @@ use Rattle.books.specs.Books.{Slot, dead, leaf, node, Book, slot, level, childr
 use Rattle.rolls.specs.Boxes.{around}
 use Rattle.rolls.specs.Rolls.{part, span, pagesOf, topLevel, child, children, pageAt, pagesFrom, rollBook}
 use Rattle.rolls.specs.Laws.{LeastOf, LeastBoxes, Sound, RollLaws, RowsMakeBooks}
-use Rattle.rolls.proofs.Boxes.{around-ordered, around-high}
+use Rattle.rolls.proofs.Around.{around-ordered, around-high}
 use Rattle.rolls.proofs.Parts.{length-part, all-part, all-counted-part}
-use Rattle.rolls.proofs.Levels.{top-low, top-single, part-some, page-least, page-fits, page-live}
+use Rattle.rolls.proofs.Spans.{top-low, top-single, part-some, page-least, page-fits, page-live}
 use Rattle.rolls.proofs.Pages.{within, pages, length-from, level-fits, first-at, later-at, stations-from, count-named, all-named}
 
 -- what the laws of a book ask of one page

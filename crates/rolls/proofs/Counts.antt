@@ -8,7 +8,7 @@ use Rattle.std.proofs.shelf.Counted.{length-map-counting}
 use Rattle.stations.specs.declared.station.Station.{Station}
 use Rattle.rolls.specs.Rolls.{pagesOf, topLevel, pageAt, pagesFrom, rollBook, pageCount, pagesTo}
 use Rattle.rolls.specs.Laws.{Makes, RowsMakePages}
-use Rattle.rolls.proofs.Levels.{at-top}
+use Rattle.rolls.proofs.Spans.{at-top}
 use Rattle.rolls.proofs.Pages.{length-from}
 
 length-pages : (row : List Station) (l first : ℕ) → length (pagesFrom row l first) ≡ pagesTo (length row) l

@@ -1,6 +1,7 @@
-pub mod Boxes
+pub mod Around
 pub mod Parts
-pub mod Levels
+pub mod Spans
 pub mod Pages
 pub mod Books
 pub mod Counts
+pub mod Seeking

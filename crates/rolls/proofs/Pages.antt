@@ -22,7 +22,7 @@ use Rattle.books.specs.Books.{Slot, dead, leaf, node, Book, slot, level, statio
 use Rattle.rolls.specs.Boxes.{around}
 use Rattle.rolls.specs.Rolls.{part, span, pagesOf, child, children, pageAt, levelPages, pagesFrom}
 use Rattle.rolls.proofs.Parts.{joined-append, joined-map, joined-none, joined-parts, length-part, all-counted, all-counted-part}
-use Rattle.rolls.proofs.Levels.{spans-all, part-some, page-fits}
+use Rattle.rolls.proofs.Spans.{spans-all, part-some, page-fits}
 
 -- 1 where p is from low and below high, and else 0
 abbrev pub within : ℕ → ℕ → ℕ → ℕ

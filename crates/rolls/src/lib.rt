@@ -1,8 +1,11 @@
 // Rolls: a row of stations read as a book, without one being made.
 ghost use Rattle.rolls.specs.Laws.{RowsMakeBooks, RowsMakePages};
 
+mod boxes;
+mod levels;
+mod place;
 mod roll;
-
+mod showing;
 pub use roll::Roll;
 
 pub fn rows_make_books() -> u8

@@ -3,7 +3,7 @@ use mathlib.Core.Path.{_≡_, refl, sym, _∙_, ap, subst}
 use mathlib.Core.Bool.{cond}
 use mathlib.Core.Logic.{⊎-elim}
 use mathlib.Core.List.{List, [], map}
-use Prim.Native.Nat.{ℕ, zero, suc, _+_, _*_, _-_, _/_, min, _≤_, _<_}
+use Prim.Native.Nat.{ℕ, zero, suc, _+_, _*_, _-_, _/_, _%_, min, max, _≤_, _<_}
 use native.Mathlib.Nat.{suc-mul, mul-assoc, add-mul, mul-le-mul-right}
 use native.Mathlib.Omega.{arith}
 use lib.Dec.{eqb}
@@ -19,7 +19,7 @@ use Rattle.books.specs.Books.{IsLive, Inside, Nested, Fits}
 use Rattle.rolls.specs.Boxes.{around}
 use Rattle.rolls.specs.Rolls.{part, span, pagesOf, topLevel, child, children, pageAt}
 use Rattle.rolls.specs.Laws.{LeastOf}
-use Rattle.rolls.proofs.Boxes.{inside-nested, around-holds, around-least}
+use Rattle.rolls.proofs.Around.{inside-nested, around-holds, around-least}
 use Rattle.rolls.proofs.Parts.{joined-parts, length-part, part-of-part, all-part, all-joined, all-counted-part, counted-part-all}
 
 pub span-some : (l : ℕ) → 1 ≤ span l
@@ -39,6 +39,13 @@ spans-no-more n zero h = omega arith
 spans-no-more n (suc l) h =
     let wide : (pagesOf n l + 11) / 12 * 12 * span l ≤ (pagesOf n l + 11) * span l = mul-le-mul-right (span l) (omega arith) in
     omega (arith, wide, spans-no-more n l h, mul-assoc ((pagesOf n l + 11) / 12) 12 (span l), add-mul (pagesOf n l) 11 (span l))
+
+-- a level's pages are as many as its spans in the row
+pub pages-by-span : (n l : ℕ) → l ≤ 2 → max (n / span l + min 1 (n % span l)) 1 ≡ pagesOf n l
+pages-by-span n zero h = omega arith
+pages-by-span n (suc zero) h = omega arith
+pages-by-span n (suc (suc zero)) h = omega arith
+pages-by-span n (suc (suc (suc l))) h = absurd (omega arith)
 
 -- what the top is, by cases
 pub at-top : (n : ℕ) (P : ℕ → Type 0) → (pagesOf n 0 ≡ 1 → P 0) → ((pagesOf n 0 ≡ 1 → ⊥) → pagesOf n 1 ≡ 1 → P 1) → ((pagesOf n 1 ≡ 1 → ⊥) → P 2) → P (topLevel n)
