@@ -5,3 +5,4 @@ pub mod Pages
 pub mod Books
 pub mod Counts
 pub mod Seeking
+pub mod Filling

@@ -47,6 +47,21 @@ pages-by-span n (suc zero) h = omega arith
 pages-by-span n (suc (suc zero)) h = omega arith
 pages-by-span n (suc (suc (suc l))) h = absurd (omega arith)
 
+pub span-most : (l s : ℕ) → l ≤ 2 → s ≡ span l → s ≤ 1728
+span-most zero s h e = omega arith
+span-most (suc zero) s h e = omega arith
+span-most (suc (suc zero)) s h e = omega arith
+span-most (suc (suc (suc l))) s h e = absurd (omega arith)
+
+-- a page begins inside the row
+pub starts-inside : (n l i s : ℕ) → 1 ≤ n → i < pagesOf n l → s ≡ span l → i * s < n
+starts-inside n l i s some h e = rw e (omega (arith, spans-no-more n l some, mul-le-mul-right (span l) h, suc-mul i (span l)))
+
+-- a row has few pages of any level
+pub few-pages : (n l : ℕ) → n ≤ 1152 → pagesOf n l ≤ 96
+few-pages n zero h = omega arith
+few-pages n (suc l) h = omega (arith, few-pages n l h)
+
 -- what the top is, by cases
 pub at-top : (n : ℕ) (P : ℕ → Type 0) → (pagesOf n 0 ≡ 1 → P 0) → ((pagesOf n 0 ≡ 1 → ⊥) → pagesOf n 1 ≡ 1 → P 1) → ((pagesOf n 1 ≡ 1 → ⊥) → P 2) → P (topLevel n)
 at-top n P zeroth first second =
@@ -67,7 +82,7 @@ module _ (row : List Station) where
   module _ (some : 1 ≤ length row) where
     pub part-some : (l i : ℕ) → i < pagesOf (length row) l → 1 ≤ length (part (span l) row i)
     part-some l i h =
-        rw length-part (omega (arith, span-some l, spans-no-more (length row) l some, mul-le-mul-right (span l) h, suc-mul i (span l)))
+        rw length-part (omega (arith, span-some l, starts-inside (length row) l i (span l) some h refl))
 
     -- a page's box is the least one around what stands on it
     pub page-least : (l below i : ℕ) → i < pagesOf (length row) l → LeastOf (around (part (span l) row i)) (pageAt row l below i)

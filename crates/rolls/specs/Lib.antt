@@ -3,3 +3,4 @@ pub mod Rolls
 pub mod Laws
 pub mod Facts
 pub mod Places
+pub mod Source

@@ -4,7 +4,7 @@ ghost use Prim.Native.Nat.{_≤_, _<_, suc};
 ghost use lib.ListN.{length};
 ghost use Rattle.stations.specs.Rows.{mostStations};
 ghost use Rattle.sources.specs.Sources.{Shows};
-ghost use Rattle.rolls.specs.Rolls.{pagesOf, child as childOf, pageAt};
+ghost use Rattle.rolls.specs.Rolls.{part, span as spanOf, pagesOf, child as childOf, pageAt};
 use books::Child;
 use books::Entry;
 use crate::boxes::around;
@@ -33,16 +33,46 @@ pub fn leaf(row: &[Station], index: usize) -> Page
     Page { level: 0, len, entries }
 }
 
-// The page of the level at the index, as the level above names it, where `first` is the number of that level's first page.
+// The stations below the page of the level at the index.
+fn spanned(row: &[Station], level: usize, index: usize) -> &[Station]
+    requires some { ⌜ 1 ≤ length (now row) ⌝ }
+    requires few { ⌜ length (now row) ≤ mostStations ⌝ }
+    requires low { ⌜ level ≤ 2 ⌝ }
+    requires there { ⌜ index < pagesOf (length (now row)) level ⌝ }
+    ensures { λ r. ⌜ now r ≡ part (spanOf level) (now (row .entry)) index ⌝ }
+{
+    let places = span(level);
+    let from = index * places;
+    let end = (from + places).min(row.len());
+    &row[from..end]
+}
+
+// That page as the level above names it, where `first` is the number of the level's first page.
 fn child(row: &[Station], level: usize, first: usize, index: usize) -> Child
-    requires few { ⌜ 1 ≤ length (now row) ⌝ ∗ ⌜ length (now row) ≤ mostStations ⌝ }
+    requires some { ⌜ 1 ≤ length (now row) ⌝ }
+    requires few { ⌜ length (now row) ≤ mostStations ⌝ }
     requires low { ⌜ level ≤ 2 ⌝ }
     requires there { ⌜ index < pagesOf (length (now row)) level ⌝ }
     requires near { ⌜ first ≤ 105 ⌝ }
     ensures { λ r. ⌜ r ≡ childOf (now (row .entry)) level first index ⌝ }
 {
-    let places = span(level);
-    let from = index * places;
-    let end = (from + places).min(row.len());
-    Child { page: (first + index) as u32, bounds: around(&row[from..end]) }
+    Child { page: (first + index) as u32, bounds: around(spanned(row, level, index)) }
+}
+
+// The page of the level above `level` at the index, where `below` is the number of the first page that it can name.
+pub fn node(row: &[Station], level: usize, below: usize, index: usize) -> Page
+    requires some { ⌜ 1 ≤ length (now row) ⌝ }
+    requires few { ⌜ length (now row) ≤ mostStations ⌝ }
+    requires low { ⌜ level ≤ 1 ⌝ }
+    requires there { ⌜ index < pagesOf (length (now row)) (suc level) ⌝ }
+    requires near { ⌜ below ≤ 105 ⌝ }
+    ensures { λ r. ⌜ Shows (pageAt (now (row .entry)) (suc level) below index) r ⌝ }
+{
+    let from = index * MOST_ENTRIES;
+    let len = (pages_of(row.len(), level) - from).min(MOST_ENTRIES);
+    let mut entries = [NOTHING; MOST_ENTRIES];
+    for i in 0..len {
+        entries[i] = Entry::Page(child(row, level, below, from + i));
+    }
+    Page { level: level as u8 + 1, len, entries }
 }
