@@ -6,3 +6,5 @@ pub mod Books
 pub mod Counts
 pub mod Seeking
 pub mod Filling
+pub mod Accepting
+pub mod Reading

@@ -1,6 +1,6 @@
 -- The pages of a roll, level by level, as they stand in a book.
 use mathlib.Core.Path.{_≡_, refl, sym, _∙_, ap, ap₂, subst, subst₂}
-use mathlib.Core.Bool.{_&&_}
+use mathlib.Core.Bool.{Bool, _&&_}
 use mathlib.Core.Logic.{⊎-elim}
 use mathlib.Core.List.{List, [], _∷_, _++_, map}
 use Prim.Native.Nat.{ℕ, zero, suc, _+_, _*_, _-_, _/_, min, _≤_, _<_}
@@ -31,7 +31,7 @@ within low high p = bit (leb low p && ltb p high)
 within-join : (low mid high p : ℕ) → low ≤ mid → mid ≤ high → within low mid p + within mid high p ≡ within low high p
 within-join low mid high p h k = grind (arith, tells)
 
-count-append : {A : Type 0} (t : A → _) (xs ys : List A) → count t (xs ++ ys) ≡ count t xs + count t ys
+pub count-append : {A : Type 0} (t : A → Bool) (xs ys : List A) → count t (xs ++ ys) ≡ count t xs + count t ys
 count-append t [] ys = omega arith
 count-append t (x ∷ xs) ys = omega (arith, count-append t xs ys)
 

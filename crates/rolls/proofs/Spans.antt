@@ -70,6 +70,9 @@ at-top n P zeroth first second =
 pub top-low : (n : ℕ) → topLevel n ≤ 2
 top-low n = at-top n (λ l. l ≤ 2) (λ _. omega arith) (λ _ _. omega arith) (λ _. omega arith)
 
+pub top-some : (n l : ℕ) → l ≤ topLevel n → (l ≡ 0 → ⊥) → 1 ≤ n
+top-some n l = at-top n (λ t. l ≤ t → (l ≡ 0 → ⊥) → 1 ≤ n) (λ _ h ne. absurd (ne (omega arith))) (λ other _ h ne. omega arith) (λ other h ne. omega arith)
+
 pub top-single : (n : ℕ) → n ≤ 1152 → pagesOf n (topLevel n) ≡ 1
 top-single n h = at-top n (λ l. pagesOf n l ≡ 1) (λ e. e) (λ _ e. e) (λ ne. omega arith)
 

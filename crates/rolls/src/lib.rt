@@ -3,10 +3,12 @@ ghost use Rattle.rolls.specs.Laws.{RowsMakeBooks, RowsMakePages};
 
 mod boxes;
 mod levels;
+mod measured;
 mod place;
 mod roll;
 mod showing;
 pub use roll::Roll;
+pub use roll::RollSource;
 
 pub fn rows_make_books() -> u8
     ensures { λ _. ⌜ RowsMakeBooks ⌝ }

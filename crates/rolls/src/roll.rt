@@ -6,7 +6,9 @@ ghost use Rattle.books.specs.Books.{Lawful};
 ghost use Rattle.rolls.specs.Rolls.{rollBook};
 use stations::Station;
 
+mod making;
 mod source;
+pub use source::RollSource;
 
 // A row of stations that is read as a book, and how often a page of it was asked for. The row stays lent.
 #[derive(Drop)]

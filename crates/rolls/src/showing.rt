@@ -4,12 +4,13 @@ ghost use Prim.Native.Nat.{_≤_, _<_, suc};
 ghost use lib.ListN.{length};
 ghost use Rattle.stations.specs.Rows.{mostStations};
 ghost use Rattle.sources.specs.Sources.{Shows};
-ghost use Rattle.rolls.specs.Rolls.{part, span as spanOf, pagesOf, child as childOf, pageAt};
+ghost use Rattle.rolls.specs.Rolls.{part, span as spanOf, pagesOf, topLevel, pageCount, child as childOf, pageAt};
 use books::Child;
 use books::Entry;
 use crate::boxes::around;
 use crate::levels::pages_of;
 use crate::levels::span;
+use crate::place::Place;
 use sources::MOST_ENTRIES;
 use sources::Page;
 use stations::Measures;
@@ -19,7 +20,7 @@ use stations::Station;
 const NOTHING: Entry = Entry::Station(Station { number: 0, at: Measures { m1: 0, m2: 0, m3: 0, m4: 0 } });
 
 // The page of level 0 at the index.
-pub fn leaf(row: &[Station], index: usize) -> Page
+fn leaf(row: &[Station], index: usize) -> Page
     requires { ⌜ index < pagesOf (length (now row)) 0 ⌝ }
     requires { ⌜ length (now row) ≤ mostStations ⌝ }
     ensures { λ r. ⌜ Shows (pageAt (now (row .entry)) 0 0 index) r ⌝ }
@@ -60,7 +61,7 @@ fn child(row: &[Station], level: usize, first: usize, index: usize) -> Child
 }
 
 // The page of the level above `level` at the index, where `below` is the number of the first page that it can name.
-pub fn node(row: &[Station], level: usize, below: usize, index: usize) -> Page
+fn node(row: &[Station], level: usize, below: usize, index: usize) -> Page
     requires some { ⌜ 1 ≤ length (now row) ⌝ }
     requires few { ⌜ length (now row) ≤ mostStations ⌝ }
     requires low { ⌜ level ≤ 1 ⌝ }
@@ -75,4 +76,19 @@ pub fn node(row: &[Station], level: usize, below: usize, index: usize) -> Page
         entries[i] = Entry::Page(child(row, level, below, from + i));
     }
     Page { level: level as u8 + 1, len, entries }
+}
+
+// The page at a place.
+pub fn page_at(row: &[Station], place: Place) -> Page
+    requires few { ⌜ length (now row) ≤ mostStations ⌝ }
+    requires low { ⌜ place .level ≤ topLevel (length (now row)) ⌝ }
+    requires there { ⌜ place .index < pagesOf (length (now row)) (place .level) ⌝ }
+    requires near { ⌜ place .below ≤ pageCount (length (now row)) ⌝ }
+    ensures { λ r. ⌜ Shows (pageAt (now (row .entry)) (place .level) (place .below) (place .index)) r ⌝ }
+{
+    if place.level == 0 {
+        leaf(row, place.index)
+    } else {
+        node(row, place.level - 1, place.below, place.index)
+    }
 }
