@@ -1,7 +1,7 @@
 -- A book is a list of slots, and a page's number is its place there.
 use mathlib.Core.Path.{_≡_}
 use mathlib.Core.Bool.{Bool, true, false}
-use mathlib.Core.List.{List, []}
+use mathlib.Core.List.{List, [], map}
 use Prim.Native.Nat.{ℕ, suc, _≤_, _<_}
 use lib.Dec.{eqb}
 use lib.ListN.{length, getD}
@@ -9,9 +9,11 @@ use Rattle.std.specs.shelf.Lists.{All, joined}
 use Rattle.stations.specs.declared.measures.Measures.{Measures}
 use Rattle.stations.specs.declared.station.Station.{Station}
 use Rattle.stations.specs.declared.region.Region.{Region}
-use Rattle.stations.specs.Beating.{_≼_}
+use Rattle.stations.specs.Beating.{Ordinary, _≼_}
 use Rattle.stations.specs.Counting.{count}
 use Rattle.books.specs.declared.Child.{Child}
+use Rattle.books.specs.declared.Entry.{Entry}
+use Rattle.books.specs.declared.Entry.the-variants as entry
 
 -- a page that cannot be read, or that does not count, is dead; a leaf has level 0 and holds stations; a node names pages
 -- of level l, and has the level above
@@ -20,6 +22,7 @@ pub data Slot : Type 0 where
   leaf : List Station → Slot
   node : ℕ → List Child → Slot
 
+-- by page number
 abbrev pub Book : Type 0
 Book = List Slot
 
@@ -27,20 +30,29 @@ Book = List Slot
 abbrev pub slot : Book → ℕ → Slot
 slot b p = getD b p dead
 
+-- a page's level
 abbrev pub level : Slot → ℕ
 level dead = 0
 level (leaf ss) = 0
 level (node l cs) = suc l
 
+-- the stations that a page holds
 abbrev pub stationsOn : Slot → List Station
 stationsOn dead = []
 stationsOn (leaf ss) = ss
 stationsOn (node l cs) = []
 
+-- the pages that a page names
 abbrev pub childrenOn : Slot → List Child
 childrenOn dead = []
 childrenOn (leaf ss) = []
 childrenOn (node l cs) = cs
+
+-- what stands on a page, in order
+abbrev pub entriesOn : Slot → List Entry
+entriesOn dead = []
+entriesOn (leaf ss) = map entry.Station ss
+entriesOn (node l cs) = map entry.Page cs
 
 -- how many entries stand on a page
 abbrev pub size : Slot → ℕ
@@ -77,10 +89,6 @@ pub record Inside (p : Measures) (box : Region) : Type 0 where
 pub record Nested (inner outer : Region) : Type 0 where
   pub above : (outer .low) ≼ (inner .low)
   pub below : (inner .high) ≼ (outer .high)
-
--- the largest measures that there are
-abbrev pub worst : Measures
-worst = record { m1 = 65535; m2 = 65535; m3 = 65535; m4 = 65535 }
 
 -- what a page named on a page of level l with this box must be: one level lower, and inside the box. A dead page is nothing else
 abbrev pub Fits : ℕ → Region → Slot → Type 0
@@ -121,9 +129,9 @@ pub record Lawful (b : Book) : Type 0 where
   -- no low of a box is above its high
   pub ordered : All (λ c. (c .bounds .low) ≼ (c .bounds .high)) (named b)
   -- no high of a box is above 65,535, and so no low
-  pub boxes : All (λ c. (c .bounds .high) ≼ worst) (named b)
+  pub boxes : All (λ c. Ordinary (c .bounds .high)) (named b)
   -- no measure of a station is above 65,535
-  pub measures : All (λ s. (s .at) ≼ worst) (stations b)
+  pub measures : All (λ s. Ordinary (s .at)) (stations b)
   -- station numbers are from 1
   pub numbers : All (λ s. 1 ≤ s .number) (stations b)
   -- no two stations have one number

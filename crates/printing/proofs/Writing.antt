@@ -20,7 +20,8 @@ pub wrote-then : {at : ℕ} {was b : List ℕ} {m : ℕ} {mid c : List ℕ} {end
 wrote-then {at} {was} {b} {m} {mid} {c} {end} {is} p q = record {
   ends = omega (arith, p .ends, q .ends, length-append b c);
   front = q .front ∙ ap (λ xs. xs ++ c) (p .front) ∙ append-assoc (take at was) b c;
-  rest = q .rest ∙ drop-later mid was m end (omega (arith, q .ends)) (p .rest) }
+  rest = q .rest ∙ drop-later mid was m end (omega (arith, q .ends)) (p .rest);
+}
 
 pub wrote-byte : (at : ℕ) (was : List ℕ) (x : ℕ) → at < length was → Wrote at was (x ∷ []) (at + 1) (set was at x)
 wrote-byte at was x h = record { ends = refl; front = take-more-set was at x h; rest = drop-set-lt (at + 1) was at x (omega arith) }
@@ -29,7 +30,8 @@ pub wrote-part : (at : ℕ) (was bytes ys : List ℕ) → at + length bytes ≤ 
 wrote-part at was bytes ys room e = record {
   ends = refl;
   front = take-putMid at ((at + length bytes) - at) was ys (at + length bytes) (omega (arith, ap length e)) (omega arith) ∙ ap (λ zs. take at was ++ zs) e;
-  rest = drop-putMid at ((at + length bytes) - at) was ys (at + length bytes) (omega arith) (omega arith) (omega (arith, ap length e)) }
+  rest = drop-putMid at ((at + length bytes) - at) was ys (at + length bytes) (omega arith) (omega arith) (omega (arith, ap length e));
+}
 
 -- all of `whole` is to be written from the first place on; what is left of it comes next, at the second place
 pub record Writing (from : ℕ) (was whole : List ℕ) (at : ℕ) (is left : List ℕ) : Type 0 where
@@ -44,13 +46,15 @@ pub writing-more : {from : ℕ} {was whole : List ℕ} {at : ℕ} {is : List ℕ
 writing-more {from} {was} {whole} {at} {is} b left {end} {next} w p = record {
   front = ap (λ xs. xs ++ left) (p .front) ∙ append-assoc (take at is) b left ∙ w .front;
   rest = p .rest ∙ drop-later is was at end (omega (arith, p .ends)) (w .rest);
-  long = omega (arith, p .ends, w .long, length-append b left) }
+  long = omega (arith, p .ends, w .long, length-append b left);
+}
 
 pub writing-done : {from : ℕ} {was whole : List ℕ} {at : ℕ} {is : List ℕ} → Writing from was whole at is [] → Wrote from was whole at is
 writing-done {from} {was} {whole} {at} {is} w = record {
   ends = omega (arith, w .long);
   front = sym (append-nil (take at is)) ∙ w .front;
-  rest = w .rest }
+  rest = w .rest;
+}
 
 -- the same bytes under another name
 pub wrote-as : {at : ℕ} {was b c : List ℕ} {end : ℕ} {is : List ℕ} → b ≡ c → Wrote at was b end is → Wrote at was c end is

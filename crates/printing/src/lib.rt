@@ -72,7 +72,14 @@ fn put_numbers(out: &mut [u8], at: usize, numbers: &[u64]) -> usize
 fn numbers_of(s: Station, rank: u64) -> [u64; 6]
     ensures { λ r. ⌜ r ≡ stationNumbers rank s ⌝ }
 {
-    [s.number as u64, s.at.m1 as u64, s.at.m2 as u64, s.at.m3 as u64, s.at.m4 as u64, rank]
+    [
+        s.number as u64,
+        s.at.m1 as u64,
+        s.at.m2 as u64,
+        s.at.m3 as u64,
+        s.at.m4 as u64,
+        rank,
+    ]
 }
 
 const DONE: [u8; 5] = *b"done\n";
@@ -93,11 +100,19 @@ fn listing_fits<R: Ranking>(list: &[Station], ranking: &R, room: usize) -> bool
 }
 
 // Prints a line for each station, number, M1 to M4 and rank, and then `done`.
-pub fn print_listing<R: Ranking>(list: &[Station], ranking: &R, out: &mut [u8]) -> Result<usize, Fault>
+pub fn print_listing<R: Ranking>(
+    list: &[Station],
+    ranking: &R,
+    out: &mut [u8],
+) -> Result<usize, Fault>
     ensures { λ r. ⌜ Printed (listing (score (now (ranking .entry))) (now (list .entry))) (now (out .entry)) (now (out .exit)) r ⌝ }
 {
     if !listing_fits(list, ranking, out.len()) {
-        return Err(Fault { code: Code::ShortBuffer, first: 0, second: 0 });
+        return Err(Fault {
+            code: Code::ShortBuffer,
+            first: 0,
+            second: 0,
+        });
     }
     let mut end = 0;
     for s in list {
@@ -112,9 +127,17 @@ const REFUSED: [u8; 8] = *b"refused,";
 pub fn print_refusal(fault: Fault, out: &mut [u8]) -> Result<usize, Fault>
     ensures { λ r. ⌜ Printed (refusal fault) (now (out .entry)) (now (out .exit)) r ⌝ }
 {
-    let numbers = [fault.code.number() as u64, fault.first as u64, fault.second as u64];
+    let numbers = [
+        fault.code.number() as u64,
+        fault.first as u64,
+        fault.second as u64,
+    ];
     if out.len() < REFUSED.len() + numbers_len(&numbers) {
-        return Err(Fault { code: Code::ShortBuffer, first: 0, second: 0 });
+        return Err(Fault {
+            code: Code::ShortBuffer,
+            first: 0,
+            second: 0,
+        });
     }
     let end = put_bytes(out, 0, &REFUSED);
     Ok(put_numbers(out, end, &numbers))

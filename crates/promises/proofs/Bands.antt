@@ -1,19 +1,14 @@
 -- The band question keeps the laws, and its answer is that of a row of stations.
 use mathlib.Core.Path.{_≡_, refl}
-use mathlib.Core.Bool.{Bool, true, false, _&&_, _||_}
-use Prim.Native.Nat.{ℕ, max, _≤_, _<_, _+_}
+use mathlib.Core.Bool.{true, _&&_, _||_}
+use Prim.Native.Nat.{ℕ, _≤_, _<_, _+_}
 use native.Mathlib.Omega.{arith}
-use lib.Dec.{leb, ltb}
+use lib.Dec.{ltb}
 use Rattle.std.proofs.shelf.Ways.{tells}
-use Rattle.std.proofs.shelf.Tests.{and-parts, and-from, ltb-true, lt-ltb, leb-true, le-leb}
+use Rattle.std.proofs.shelf.Tests.{and-parts, and-from, lt-ltb, leb-true, le-leb}
 use Rattle.stations.specs.declared.measures.Measures.{Measures}
-use Rattle.stations.specs.declared.region.Region.{Region}
-use Rattle.stations.specs.declared.question.Question.{Question}
 use Rattle.stations.specs.Beating.{_≼_, atMost, smaller, beats, sum}
-use Rattle.stations.specs.Keys.{lex, before}
-use Rattle.books.specs.Books.{Inside, Nested}
-use Rattle.promises.specs.Queries.{Query, Laws, keyAt}
-use Rattle.promises.specs.Bands.{join, bands, BandsKeepLaws, BandsAnswer}
+use Rattle.promises.specs.Bands.{join, BandsKeepLaws, BandsAnswer}
 use Rattle.promises.proofs.Keys.{lex-lt, lex-le}
 
 le-at-most : (a b : Measures) → a ≼ b → atMost a b ≡ true

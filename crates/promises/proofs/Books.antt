@@ -1,20 +1,20 @@
 -- What stands in a book stands on one of its slots, and what the laws of a book say of it.
-use mathlib.Core.Path.{_≡_, refl, sym, _∙_, ap, subst}
+use mathlib.Core.Path.{_≡_, refl, sym, ap, subst}
+use mathlib.Core.Bool.{true, false}
 use mathlib.Core.Logic.{_⊎_, inl, inr, ⊎-elim}
 use mathlib.Core.List.{List, [], _∷_, _++_}
-use Prim.Native.Nat.{ℕ, zero, suc, _+_, _≤_, _<_}
+use Prim.Native.Nat.{ℕ, zero, suc, _≤_, _<_}
 use native.Mathlib.Omega.{arith}
-use mathlib.Core.Bool.{Bool, true}
 use lib.Dec.{eqb}
-use lib.ListN.{length, getD}
-use Rattle.std.specs.shelf.Lists.{All, joined}
-use Rattle.std.proofs.shelf.Tests.{cases-eq, eq-eqb, eqb-true}
+use lib.ListN.{length}
+use Rattle.std.specs.shelf.Lists.{joined}
+use Rattle.std.proofs.shelf.Tests.{cases-bool, cases-eq, both-ways, eq-eqb, eqb-true}
 use Rattle.stations.specs.declared.station.Station.{Station}
 use Rattle.stations.specs.declared.region.Region.{Region}
 use Rattle.stations.specs.Counting.{bit, count}
 use Rattle.books.specs.declared.Child.{Child}
 use Rattle.books.specs.Lists.{Pairwise, _∈_, here, there}
-use Rattle.books.specs.Books.{Slot, dead, leaf, node, Book, slot, level, stationsOn, childrenOn, stations, named, names, numbered, IsLive, Inside, Nested, Fits, Lawful}
+use Rattle.books.specs.Books.{Slot, dead, leaf, node, Book, slot, level, stationsOn, childrenOn, stations, named, names, IsLive, isDead, Inside, Nested, Fits, Lawful}
 use Rattle.promises.proofs.Lists.{all-at, all-from, count-mem, count-some}
 
 module _ {A : Type 0} where
@@ -59,6 +59,24 @@ pub record Shape (b : Book) : Type 0 where
   pub child-after : (p : ℕ) (d : Child) → d ∈ childrenOn (slot b p) → p < d .page
   pub numbers : Pairwise (λ s t. s .number ≡ t .number → ⊥) (stations b)
   pub pages : Pairwise (λ c d. c .page ≡ d .page → ⊥) (named b)
+
+pub live-false : (s : Slot) → isDead s ≡ false → IsLive s
+live-false dead h = both-ways true h refl
+live-false (leaf ss) h = tt
+live-false (node l cs) h = tt
+
+pub dead-true : (s : Slot) → isDead s ≡ true → s ≡ dead
+dead-true dead h = refl
+dead-true (leaf ss) h = absurd (both-ways false refl h)
+dead-true (node l cs) h = absurd (both-ways false refl h)
+
+pub false-live : (s : Slot) → IsLive s → isDead s ≡ false
+false-live dead h = absurd h
+false-live (leaf ss) h = refl
+false-live (node l cs) h = refl
+
+pub dead-or-live : (s : Slot) → (s ≡ dead) ⊎ IsLive s
+dead-or-live s = ⊎-elim (λ h. inl (dead-true s h)) (λ h. inr (live-false s h)) (cases-bool (isDead s))
 
 pub station-live : (x : Slot) {s : Station} → s ∈ stationsOn x → IsLive x
 station-live dead m = elim m [ ]

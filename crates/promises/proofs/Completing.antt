@@ -1,22 +1,20 @@
 -- Every lawful book with a live top can be made whole: below each dead named page a station is put, at measures of choice.
 use mathlib.Core.Path.{_≡_, refl, sym, ap, subst, _∙_}
 use mathlib.Core.Logic.{_⊎_, inl, inr, ⊎-elim}
-use mathlib.Core.Bool.{Bool, true, false}
 use mathlib.Core.List.{List, [], _∷_, _++_}
 use Prim.Native.Nat.{ℕ, zero, suc, _+_, _≤_, _<_}
 use native.Mathlib.Omega.{arith}
-use lib.ListN.{length, getD, set}
+use lib.ListN.{length, set}
 use Rattle.std.specs.shelf.Lists.{All, joined, kept-by}
-use Rattle.std.proofs.shelf.Lists.{length-set, getD-set-same, getD-set-other, length-append, getD-at, getD-past}
-use Rattle.std.proofs.shelf.Tests.{cases-eq, cases-lt, eq-eqb, eqb-true, ne-eqb, both-ways}
+use Rattle.std.proofs.shelf.Lists.{length-set, getD-set-same, getD-set-other, length-append, getD-past}
+use Rattle.std.proofs.shelf.Tests.{cases-lt, eq-eqb, ne-eqb}
 use Rattle.stations.specs.declared.measures.Measures.{Measures}
 use Rattle.stations.specs.declared.station.Station.{Station}
 use Rattle.stations.specs.Counting.{bit, count}
-use Rattle.books.specs.declared.Child.{Child}
 use Rattle.books.specs.Lists.{_∈_, here, there}
-use Rattle.books.specs.Books.{Book, Slot, dead, leaf, node, slot, childrenOn, stationsOn, named, stations, names, numbered, IsLive, isDead, Inside, Lawful, Whole}
-use Rattle.promises.proofs.Lists.{all-at, all-from, in-kept, of-kept, count-kept-le, nothing-in, count-mem, count-none}
-use Rattle.promises.proofs.Books.{of-joined, in-joined}
+use Rattle.books.specs.Books.{Book, Slot, dead, leaf, node, slot, stationsOn, named, stations, numbered, IsLive, isDead, Inside, Lawful}
+use Rattle.promises.proofs.Lists.{in-kept, of-kept, count-kept-le, nothing-in, count-mem, count-none}
+use Rattle.promises.proofs.Books.{dead-true, dead-or-live, of-joined, in-joined}
 use Rattle.promises.proofs.Placing.{Home, home, homesOn, homes, houses, count-homes, home-ok, Open, of-written, slot-grown, joined-grown, leaf-lawful, last-child, node-lawful}
 
 -- the places where a dead page is named
@@ -25,11 +23,6 @@ gaps b = kept-by (λ h. isDead (slot b (h .child .page))) (homes b)
 
 live-inside : (b : Book) (p : ℕ) → IsLive (slot b p) → p < length b
 live-inside b p l = ⊎-elim (λ (k : p < length b). k) (λ (k : length b ≤ p). absurd (subst IsLive (getD-past b p dead k) l)) (cases-lt p (length b))
-
-dead-or-live : (s : Slot) → (s ≡ dead) ⊎ IsLive s
-dead-or-live dead = inl refl
-dead-or-live (leaf ss) = inr tt
-dead-or-live (node l cs) = inr tt
 
 -- what stands on live slots stays where they stay
 pub stays : {A : Type 0} (f : Slot → List A) → f dead ≡ [] → (b w : Book) → ((p : ℕ) → IsLive (slot b p) → slot w p ≡ slot b p) → {x : A} → x ∈ joined f b → x ∈ joined f w
@@ -232,13 +225,8 @@ fill-all pick (h ∷ os) b n lawful r at one fresh =
     (λ x m. ⊎-elim (λ (k : x ∈ stations b). omega (arith, fresh x k)) (λ (e : x ≡ s). omega (arith, ap (λ (y : Station). y .number) e)) (f .1 .from x m)) in
     (g .0, and-one b h s (f .0) (fills pick (suc n) os) (g .0) o (f .1) (g .1))
 
-is-dead : (s : Slot) → isDead s ≡ true → s ≡ dead
-is-dead dead e = refl
-is-dead (leaf ss) e = absurd (both-ways false refl e)
-is-dead (node l cs) e = absurd (both-ways false refl e)
-
 pub of-gaps : (b : Book) (h : Home) → h ∈ gaps b → Open b h
-of-gaps b h m = let r = of-kept (λ h. isDead (slot b (h .child .page))) (homes b) m in record { named = r .0; dead = is-dead (slot b (h .child .page)) (r .1) }
+of-gaps b h m = let r = of-kept (λ h. isDead (slot b (h .child .page))) (homes b) m in record { named = r .0; dead = dead-true (slot b (h .child .page)) (r .1) }
 
 pub in-gaps : (b : Book) (h : Home) → h ∈ homes b → slot b (h .child .page) ≡ dead → h ∈ gaps b
 in-gaps b h m e = in-kept (λ h. isDead (slot b (h .child .page))) m (ap isDead e)

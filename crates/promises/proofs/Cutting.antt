@@ -2,20 +2,18 @@
 use mathlib.Core.Path.{_≡_, refl, sym, ap, subst, _∙_}
 use mathlib.Core.Logic.{_⊎_, inl, inr, ⊎-elim}
 use mathlib.Core.Bool.{Bool, true, false, cond, _||_}
-use mathlib.Core.List.{List, [], _∷_, _++_}
-use Prim.Native.Nat.{ℕ, zero, suc, _+_, _≤_, _<_}
+use mathlib.Core.List.{List, [], _∷_}
+use Prim.Native.Nat.{ℕ, zero, suc, _≤_, _<_}
 use native.Mathlib.Omega.{arith}
 use lib.Dec.{eqb}
-use lib.ListN.{length, getD}
+use lib.ListN.{length}
 use Rattle.std.specs.shelf.Lists.{All, joined}
 use Rattle.std.proofs.shelf.Elements.{all-weaker}
 use Rattle.std.proofs.shelf.Tests.{eq-eqb, eqb-true, both-ways, or-cases, or-left, or-right, cases-bool}
-use Rattle.stations.specs.declared.station.Station.{Station}
-use Rattle.stations.specs.Beating.{_≼_}
 use Rattle.stations.specs.Counting.{count}
 use Rattle.books.specs.declared.Child.{Child}
 use Rattle.books.specs.Lists.{_∈_, here, there}
-use Rattle.books.specs.Books.{Book, Slot, dead, slot, level, size, childrenOn, stationsOn, named, stations, names, numbered, IsLive, Fits, Filled, Lawful, worst}
+use Rattle.books.specs.Books.{Book, Slot, dead, slot, level, size, childrenOn, stationsOn, named, names, numbered, IsLive, Fits, Filled, Lawful}
 use Rattle.promises.specs.Settling.{Rooted}
 use Rattle.promises.proofs.Lists.{all-at, all-from, nothing-in, count-append, count-mem}
 use Rattle.promises.proofs.Books.{of-joined, in-joined}
@@ -35,6 +33,9 @@ has-in (q ∷ ps) p h = go (or-cases (eqb q p) (has ps p) h) (has-in ps p)
 pub in-has : {p : ℕ} {ps : List ℕ} → p ∈ ps → has ps p ≡ true
 in-has (here {x = q} e) = or-left _ _ (eq-eqb q _ (sym e))
 in-has (there {x = q} m) = or-right (eqb q _) _ (in-has m)
+
+pub holds-or-not : (p : ℕ) (ps : List ℕ) → (p ∈ ps) ⊎ (p ∈ ps → ⊥)
+holds-or-not p ps = ⊎-elim (λ h. inl (has-in ps p h)) (λ h. inr (λ m. both-ways (has ps p) h (in-has m))) (cases-bool (has ps p))
 
 -- the slots at the places that pass the test, and dead ones at the others
 abbrev pub keep : (ℕ → Bool) → Book → Book

@@ -1,25 +1,23 @@
 -- The pages that a set names and does not hold can be filled, in two ways that differ.
 use mathlib.Core.Path.{_≡_, refl, sym, ap, subst, _∙_}
-use mathlib.Core.Logic.{_⊎_, inl, inr, ⊎-elim}
-use mathlib.Core.Bool.{Bool, true, false, cond}
+use mathlib.Core.Logic.{inl, inr, ⊎-elim}
+use mathlib.Core.Bool.{cond}
 use mathlib.Core.List.{List, [], _∷_}
-use Prim.Native.Nat.{ℕ, zero, suc, _+_, _≤_, _<_}
+use Prim.Native.Nat.{ℕ, suc, _+_, _≤_, _<_}
 use native.Mathlib.Omega.{arith}
 use lib.ListN.{length}
-use Rattle.std.specs.shelf.Lists.{All, joined}
-use Rattle.std.proofs.shelf.Tests.{eq-eqb, eqb-true, cond-true, cond-both}
+use Rattle.std.proofs.shelf.Tests.{eq-eqb, cond-true, cond-both}
 use Rattle.stations.specs.declared.measures.Measures.{Measures}
 use Rattle.stations.specs.declared.station.Station.{Station}
-use Rattle.stations.specs.Beating.{_≼_}
 use Rattle.books.specs.declared.Child.{Child}
 use Rattle.books.specs.Lists.{_∈_, here, there}
 use Rattle.books.specs.Books.{Book, slot, childrenOn, stationsOn, named, stations, names, IsLive, Inside, Lawful}
-use Rattle.promises.specs.Settling.{Keeps, Rooted}
-use Rattle.promises.specs.Filling.{StandsOn, LiesBelow, Fills, Fillable}
+use Rattle.promises.specs.Settling.{Rooted}
+use Rattle.promises.specs.Filling.{LiesBelow, Fills, Fillable}
 use Rattle.promises.proofs.Lists.{all-at, all-from, nothing-in, only}
 use Rattle.promises.proofs.Books.{of-joined, in-joined}
 use Rattle.promises.proofs.Cutting.{has, has-in, cut, of-keep, slot-in, slot-out, cut-lawful, of-cut, dead-out}
-use Rattle.promises.proofs.Placing.{Home, home, homesOn, homes, houses, at-home, home-ok, Open}
+use Rattle.promises.proofs.Placing.{Home, home, homesOn, houses, at-home, home-ok}
 use Rattle.promises.proofs.Completing.{gaps, of-gaps, in-gaps, fills, Completes, completion}
 
 -- at least every number of the stations
@@ -63,8 +61,8 @@ module _ (b : Book) (lawful : Lawful b) (ps : List ℕ) (rooted : Rooted b ps) (
   picked h m =
       let ok = home-ok (cut ps b) small-lawful h (of-gaps (cut ps b) h m .named) in
       cond-both (houses (g .page) h) c (h .child .bounds .low) (λ x. Inside x (h .child .bounds))
-          (λ e. subst (λ (d : Child). Inside c (d .bounds)) (only (names (g .page)) (named (cut ps b)) (small-lawful .named-once (g .page)) g-named (eq-eqb _ _ refl) (ok .named) e) at)
-          (λ e. record { above = omega arith; below = ok .ordered })
+      (λ e. subst (λ (d : Child). Inside c (d .bounds)) (only (names (g .page)) (named (cut ps b)) (small-lawful .named-once (g .page)) g-named (eq-eqb _ _ refl) (ok .named) e) at)
+      (λ e. record { above = omega arith; below = ok .ordered })
 
   base : ℕ
   base = suc (total (stations (cut ps b)))

@@ -7,3 +7,14 @@ pub mod Cutting
 pub mod Placing
 pub mod Completing
 pub mod Filling
+pub mod Frugal
+pub mod Rows
+pub mod Promises
+pub mod Stepping
+pub mod Cases
+pub mod Histories
+pub mod Checking
+pub mod Places
+pub mod Turns
+pub mod PageTurns
+pub mod Turning

@@ -3,11 +3,12 @@ use mathlib.Core.Path.{_≡_, refl, sym, _∙_, ap, ap₂, subst}
 use mathlib.Core.Bool.{Bool, true, false, cond}
 use mathlib.Core.Logic.{_⊎_, inl, inr, ⊎-elim}
 use mathlib.Core.List.{List, [], _∷_, _++_, map}
-use Prim.Native.Nat.{ℕ, suc, _+_, _≤_, _<_}
+use Prim.Native.Nat.{_+_, _≤_, _<_}
 use native.Mathlib.Omega.{arith}
 use Rattle.std.specs.shelf.Lists.{All, kept-by}
 use Rattle.std.proofs.shelf.Tests.{cases-bool, both-ways}
-use Rattle.std.proofs.shelf.Elements.{all-kept-by, all-weaker}
+use Rattle.std.proofs.shelf.Elements.{all-kept-by, all-weaker, all-map, all-append}
+use lib.ListN.{length}
 use Rattle.stations.specs.Counting.{bit, count, insert, sort}
 use Rattle.books.specs.Lists.{Pairwise, _∈_, here, there}
 
@@ -217,3 +218,52 @@ module _ {A : Type 0} where
   only t (z ∷ xs) h (here p) e (there n) f = absurd (omega (arith, count-mem t n f, ap bit (ap t (sym p) ∙ e)))
   only t (z ∷ xs) h (there m) e (here q) f = absurd (omega (arith, count-mem t m e, ap bit (ap t (sym q) ∙ f)))
   only t (z ∷ xs) h (there m) e (there n) f = only t xs (omega arith) m e n f
+
+  pub count-all : (xs : List A) → count (λ _. true) xs ≡ length xs
+  count-all [] = refl
+  count-all (x ∷ xs) = omega (arith, count-all xs)
+
+pub pairwise-mapped : {A B : Type 0} (R : B → B → Type 0) (f : A → B) (xs : List A) → Pairwise (λ x y. R (f x) (f y)) xs → Pairwise R (map f xs)
+pairwise-mapped R f [] h = tt
+pairwise-mapped R f (x ∷ xs) h = (all-map (R (f x)) f xs (h .0), pairwise-mapped R f xs (h .1))
+
+pub of-map : {A B : Type 0} (f : A → B) (xs : List A) {y : B} → y ∈ map f xs → (x : A) × (x ∈ xs) × (y ≡ f x)
+of-map f [] m = nothing-in m
+of-map f (x ∷ xs) (here e) = (x, here refl, e)
+of-map f (x ∷ xs) (there m) = let r = of-map f xs m in (r .0, there (r .1), r .2)
+
+module _ {A : Type 0} where
+  pub pairwise-append : (R : A → A → Type 0) (xs ys : List A) → Pairwise R xs → Pairwise R ys → ((x : A) → x ∈ xs → (y : A) → y ∈ ys → R x y) → Pairwise R (xs ++ ys)
+  pairwise-append R [] ys h k f = k
+  pairwise-append R (x ∷ xs) ys h k f = (all-append (R x) xs ys (h .0) (all-from (R x) ys (λ y m. f x (here refl) y m)), pairwise-append R xs ys (h .1) k (λ z m. f z (there m)))
+
+  pub kept-none : (t : A → Bool) (xs : List A) → All (λ x. t x ≡ false) xs → kept-by t xs ≡ []
+  kept-none t [] h = refl
+  kept-none t (x ∷ xs) h = ap (λ v. cond v (x ∷ kept-by t xs) (kept-by t xs)) (h .0) ∙ kept-none t xs (h .1)
+
+  pub kept-all : (t : A → Bool) (xs : List A) → All (λ x. t x ≡ true) xs → kept-by t xs ≡ xs
+  kept-all t [] h = refl
+  kept-all t (x ∷ xs) h = ap (λ v. cond v (x ∷ kept-by t xs) (kept-by t xs)) (h .0) ∙ ap (λ ys. x ∷ ys) (kept-all t xs (h .1))
+
+  -- a filter over a wider one is the filter
+  pub kept-kept : (t u : A → Bool) → ((x : A) → t x ≡ true → u x ≡ true) → (xs : List A) → kept-by t (kept-by u xs) ≡ kept-by t xs
+  kept-kept t u f [] = refl
+  kept-kept t u f (x ∷ xs) = go (u x) refl (t x) refl (kept-kept t u f xs)
+    where
+      go : (v : Bool) → u x ≡ v → (s : Bool) → t x ≡ s → kept-by t (kept-by u xs) ≡ kept-by t xs → kept-by t (cond v (x ∷ kept-by u xs) (kept-by u xs)) ≡ cond s (x ∷ kept-by t xs) (kept-by t xs)
+      go true h s k e = ap (λ s. cond s (x ∷ kept-by t (kept-by u xs)) (kept-by t (kept-by u xs))) k ∙ ap (λ ys. cond s (x ∷ ys) ys) e
+      go false h true k e = absurd (both-ways (u x) h (f x k))
+      go false h false k e = e
+
+  -- in a rising list, what a test keeps stands in front where the test is closed downward
+  pub begins-kept : (lt : A → A → Bool) (t : A → Bool) → ((x y : A) → lt x y ≡ true → t y ≡ true → t x ≡ true) → (xs : List A) → Pairwise (λ x y. lt x y ≡ true) xs → (rest : List A) × (xs ≡ kept-by t xs ++ rest)
+  begins-kept lt t f [] r = ([], refl)
+  begins-kept lt t f (x ∷ xs) r = go (t x) refl (begins-kept lt t f xs (r .1))
+    where
+      go : (v : Bool) → t x ≡ v → (rest : List A) × (xs ≡ kept-by t xs ++ rest) → (rest : List A) × (x ∷ xs ≡ cond v (x ∷ kept-by t xs) (kept-by t xs) ++ rest)
+      go true h (rest, e) = (rest, ap (λ ys. x ∷ ys) e)
+      go false h k = (x ∷ xs, ap (λ ys. ys ++ (x ∷ xs)) (sym (kept-none t xs (all-weaker (λ y. lt x y ≡ true) (λ y. t y ≡ false) (λ y l. ⊎-elim (λ e. absurd (both-ways (t x) h (f x y l e))) (λ e. e) (cases-bool (t y))) xs (r .0)))))
+
+  pub length-kept : (t : A → Bool) (xs : List A) → length (kept-by t xs) ≡ count t xs
+  length-kept t [] = refl
+  length-kept t (x ∷ xs) = elim (t x) as (λ v. length (cond v (x ∷ kept-by t xs) (kept-by t xs)) ≡ bit v + count t xs) [ true ↦ omega (arith, length-kept t xs) | false ↦ omega (arith, length-kept t xs) ]

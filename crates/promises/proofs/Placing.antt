@@ -6,19 +6,18 @@ use mathlib.Core.List.{List, [], _∷_, _++_, map}
 use Prim.Native.Nat.{ℕ, zero, suc, _+_, _≤_, _<_}
 use native.Mathlib.Omega.{arith}
 use lib.Dec.{eqb}
-use lib.ListN.{length, getD, set}
+use lib.ListN.{length, set}
 use Rattle.std.specs.shelf.Lists.{All, joined}
 use Rattle.std.proofs.shelf.Lists.{length-set, getD-set-same, getD-set-other, length-append, getD-at}
 use Rattle.std.proofs.shelf.Elements.{all-weaker}
 use Rattle.std.proofs.shelf.Tests.{cases-eq, eq-eqb, eqb-true, ne-eqb}
 use Rattle.stations.specs.declared.station.Station.{Station}
-use Rattle.stations.specs.declared.region.Region.{Region}
-use Rattle.stations.specs.Beating.{_≼_}
+use Rattle.stations.specs.Beating.{Ordinary, _≼_}
 use Rattle.stations.specs.Counting.{bit, count}
 use Rattle.books.specs.declared.Child.{Child}
-use Rattle.books.specs.Lists.{_∈_, here, there}
-use Rattle.books.specs.Books.{Book, Slot, dead, leaf, node, slot, level, size, childrenOn, stationsOn, named, stations, names, numbered, IsLive, Inside, Nested, Fits, Filled, Lawful, worst}
-use Rattle.promises.proofs.Lists.{all-at, all-from, in-map, nothing-in, only, count-append, count-mem, count-none}
+use Rattle.books.specs.Lists.{_∈_}
+use Rattle.books.specs.Books.{Book, Slot, dead, leaf, node, slot, level, size, childrenOn, stationsOn, named, stations, names, numbered, IsLive, Inside, Fits, Filled, Lawful}
+use Rattle.promises.proofs.Lists.{all-at, all-from, in-map, of-map, nothing-in, only, count-append, count-mem, count-none}
 use Rattle.promises.proofs.Books.{of-joined, in-joined}
 
 -- a place where a page is named, with the level that the page must have
@@ -40,11 +39,6 @@ homes b = joined homesOn b
 -- the home is one of the page p
 abbrev pub houses : ℕ → Home → Bool
 houses p h = names p (h .child)
-
-of-map : {A B : Type 0} (f : A → B) (xs : List A) {y : B} → y ∈ map f xs → (x : A) × (x ∈ xs) × (y ≡ f x)
-of-map f [] m = nothing-in m
-of-map f (x ∷ xs) (here e) = (x, here refl, e)
-of-map f (x ∷ xs) (there m) = let r = of-map f xs m in (r .0, there (r .1), r .2)
 
 count-houses : (p : ℕ) (l : ℕ) (cs : List Child) → count (houses p) (map (home l) cs) ≡ count (names p) cs
 count-houses p l [] = refl
@@ -75,7 +69,7 @@ pub record Home-ok (b : Book) (h : Home) : Type 0 where
   pub inside : h .child .page < length b
   pub named : h .child ∈ named b
   pub ordered : (h .child .bounds .low) ≼ (h .child .bounds .high)
-  pub box : (h .child .bounds .high) ≼ worst
+  pub box : Ordinary (h .child .bounds .high)
 
 pub home-ok : (b : Book) → Lawful b → (h : Home) → h ∈ homes b → Home-ok b h
 home-ok b lawful h m =
@@ -87,7 +81,7 @@ home-ok b lawful h m =
       inside = all-at (λ c. (r .0 < c .page) × (c .page < length b)) (lawful .after (r .0)) (o .0) .1;
       named = n;
       ordered = all-at (λ c. (c .bounds .low) ≼ (c .bounds .high)) (lawful .ordered) n;
-      box = all-at (λ c. (c .bounds .high) ≼ worst) (lawful .boxes) n;
+      box = all-at (λ c. Ordinary (c .bounds .high)) (lawful .boxes) n;
     }
 
 -- a named page that is dead
@@ -129,16 +123,13 @@ pub record Goes (b : Book) (h : Home) (s : Slot) : Type 0 where
   pub after : All (λ c. (h .child .page < c .page) × (c .page < length b)) (childrenOn s)
   pub unread : All (λ c. (slot b (c .page) ≡ dead) × (c .page ≡ h .child .page → ⊥)) (childrenOn s)
   pub ordered : All (λ c. (c .bounds .low) ≼ (c .bounds .high)) (childrenOn s)
-  pub boxes : All (λ c. (c .bounds .high) ≼ worst) (childrenOn s)
-  pub measures : All (λ t. (t .at) ≼ worst) (stationsOn s)
+  pub boxes : All (λ c. Ordinary (c .bounds .high)) (childrenOn s)
+  pub measures : All (λ t. Ordinary (t .at)) (stationsOn s)
   pub numbers : All (λ t. 1 ≤ t .number) (stationsOn s)
   pub names-fresh : (p : ℕ) → count (names p) (named b) + count (names p) (childrenOn s) ≤ 1
   pub numbers-fresh : (n : ℕ) → count (numbered n) (stations b) + count (numbered n) (stationsOn s) ≤ 1
 
 module _ (b : Book) (h : Home) (s : Slot) (lawful : Lawful b) (o : Open b h) (go : Goes b h s) where
-  place : ℕ
-  place = h .child .page
-
   inside : h .child .page < length b
   inside = home-ok b lawful h (o .named) .inside
 
@@ -149,12 +140,12 @@ module _ (b : Book) (h : Home) (s : Slot) (lawful : Lawful b) (o : Open b h) (go
   old-fits : (p : ℕ) (c : Child) → c ∈ childrenOn (slot b p) → Fits (level (slot b p)) (c .bounds) (slot (set b (h .child .page) s) (c .page))
   old-fits p c m =
       written (λ r t. c .page ≡ r → Fits (level (slot b p)) (c .bounds) t) b (h .child .page) s inside
-          (λ e.
-          let a = at-home (slot b p) m in
-          let same : h ≡ home (a .0) c = only (houses (h .child .page)) (homes b) (omega (arith, count-homes (h .child .page) b, lawful .named-once (h .child .page))) (o .named) (eq-eqb _ _ refl) (in-joined homesOn refl b p (a .2)) (eq-eqb _ _ e) in
-          subst (λ l. Fits l (c .bounds) s) (sym (a .1)) (subst (λ (y : Home). Fits (suc (y .level)) (y .child .bounds) s) same (go .fits)))
-          (λ r n e. subst (λ i. Fits (level (slot b p)) (c .bounds) (slot b i)) e (all-at (λ c. Fits (level (slot b p)) (c .bounds) (slot b (c .page))) (lawful .fits p) m))
-          (c .page) refl
+      (λ e.
+      let a = at-home (slot b p) m in
+      let same : h ≡ home (a .0) c = only (houses (h .child .page)) (homes b) (omega (arith, count-homes (h .child .page) b, lawful .named-once (h .child .page))) (o .named) (eq-eqb _ _ refl) (in-joined homesOn refl b p (a .2)) (eq-eqb _ _ e) in
+      subst (λ l. Fits l (c .bounds) s) (sym (a .1)) (subst (λ (y : Home). Fits (suc (y .level)) (y .child .bounds) s) same (go .fits)))
+      (λ r n e. subst (λ i. Fits (level (slot b p)) (c .bounds) (slot b i)) e (all-at (λ c. Fits (level (slot b p)) (c .bounds) (slot b (c .page))) (lawful .fits p) m))
+      (c .page) refl
 
   new-fits : (c : Child) → c ∈ childrenOn s → Fits (level s) (c .bounds) (slot (set b (h .child .page) s) (c .page))
   new-fits c m =
@@ -215,8 +206,8 @@ module _ (b : Book) (lawful : Lawful b) where
     reached = λ p l n. grown-children (λ x. 1 ≤ count (names p) x) (lawful .reached p (subst IsLive (slot-grown b p) l) n);
     named-once = λ p. grown-children (λ x. count (names p) x ≤ 1) (lawful .named-once p);
     ordered = grown-children (All (λ c. (c .bounds .low) ≼ (c .bounds .high))) (lawful .ordered);
-    boxes = grown-children (All (λ c. (c .bounds .high) ≼ worst)) (lawful .boxes);
-    measures = grown-stations (All (λ s. (s .at) ≼ worst)) (lawful .measures);
+    boxes = grown-children (All (λ c. Ordinary (c .bounds .high))) (lawful .boxes);
+    measures = grown-stations (All (λ s. Ordinary (s .at))) (lawful .measures);
     numbers = grown-stations (All (λ s. 1 ≤ s .number)) (lawful .numbers);
     numbered-once = λ n. grown-stations (λ x. count (numbered n) x ≤ 1) (lawful .numbered-once n);
   }
@@ -260,18 +251,18 @@ pub node-lawful : (b : Book) (h : Home) (l : ℕ) → Lawful b → Open b h → 
 node-lawful b h l lawful o lvl =
     let ok = home-ok b lawful h (o .named) in
     placed (b ++ dead ∷ []) h (node l (last-child b h ∷ [])) (grown b lawful)
-        record { named = subst (λ x. h ∈ x) (sym (joined-grown homesOn refl b)) (o .named); dead = slot-grown b (h .child .page) ∙ o .dead }
-        record {
-          fits = (ap suc lvl, (record { above = omega arith; below = omega arith }, tt));
-          level = omega arith;
-          size = omega arith;
-          filled = omega arith;
-          after = ((ok .inside, omega (arith, length-append b (dead ∷ []))), tt);
-          unread = ((getD-at b dead [] dead (length b) refl, λ e. omega (arith, ok .inside)), tt);
-          ordered = (ok .ordered, tt);
-          boxes = (ok .box, tt);
-          measures = tt;
-          numbers = tt;
-          names-fresh = λ p. fresh-one (λ x. x .page) (last-child b h) (named (b ++ dead ∷ [])) (subst (λ x. count (names (length b)) x ≡ 0) (sym (joined-grown childrenOn refl b)) (unnamed b lawful (length b) (omega arith))) p (grown b lawful .named-once p);
-          numbers-fresh = λ n. omega (arith, grown b lawful .numbered-once n);
-        }
+    record { named = subst (λ x. h ∈ x) (sym (joined-grown homesOn refl b)) (o .named); dead = slot-grown b (h .child .page) ∙ o .dead }
+    record {
+      fits = (ap suc lvl, (record { above = omega arith; below = omega arith }, tt));
+      level = omega arith;
+      size = omega arith;
+      filled = omega arith;
+      after = ((ok .inside, omega (arith, length-append b (dead ∷ []))), tt);
+      unread = ((getD-at b dead [] dead (length b) refl, λ e. omega (arith, ok .inside)), tt);
+      ordered = (ok .ordered, tt);
+      boxes = (ok .box, tt);
+      measures = tt;
+      numbers = tt;
+      names-fresh = λ p. fresh-one (λ x. x .page) (last-child b h) (named (b ++ dead ∷ [])) (subst (λ x. count (names (length b)) x ≡ 0) (sym (joined-grown childrenOn refl b)) (unnamed b lawful (length b) (omega arith))) p (grown b lawful .named-once p);
+      numbers-fresh = λ n. omega (arith, grown b lawful .numbered-once n);
+    }

@@ -1,13 +1,13 @@
 -- Why the search is right, up to any bound on keys.
-use mathlib.Core.Path.{_≡_, refl, sym, _∙_, ap, subst}
-use mathlib.Core.Bool.{Bool, true, false, not, _&&_}
+use mathlib.Core.Path.{_≡_, refl, sym, ap, subst}
+use mathlib.Core.Bool.{Bool, true, false}
 use mathlib.Core.Logic.{_⊎_, inl, inr, ⊎-elim}
-use mathlib.Core.List.{List, [], _∷_, map}
-use Prim.Native.Nat.{ℕ, zero, suc, _+_, _≤_, _<_}
+use mathlib.Core.List.{List}
+use Prim.Native.Nat.{ℕ, zero, suc, _≤_, _<_}
 use native.Mathlib.Omega.{arith}
 use lib.Dec.{ltb}
 use Rattle.std.proofs.shelf.Ways.{tells}
-use Rattle.std.specs.shelf.Lists.{All, kept-by, joined}
+use Rattle.std.specs.shelf.Lists.{All}
 use Rattle.std.proofs.shelf.Tests.{cases-bool, both-ways, ltb-true, ltb-false, lt-ltb, and-parts, and-from}
 use Rattle.std.proofs.shelf.Elements.{all-map}
 use Rattle.stations.specs.declared.measures.Measures.{Measures}
@@ -17,17 +17,17 @@ use Rattle.stations.specs.declared.key.Kind.{Kind}
 use Rattle.stations.specs.declared.key.Kind.the-variants.{Page, Station}
 use Rattle.stations.specs.Beating.{_≼_}
 use Rattle.stations.specs.Keys.{before}
-use Rattle.stations.specs.Counting.{count, sort}
+use Rattle.stations.specs.Counting.{count}
 use Rattle.books.specs.declared.Child.{Child}
 use Rattle.books.specs.Lists.{Pairwise, _∈_, here, there}
-use Rattle.books.specs.Books.{Book, slot, stationsOn, childrenOn, stations, named, Lawful, Inside, Nested}
+use Rattle.books.specs.Books.{Book, slot, stationsOn, childrenOn, stations, named, Inside, Nested}
 use Rattle.promises.specs.Bounds.{Bound, below, within}
 use Rattle.promises.specs.Queries.{Query, Laws, keyAt, stationKey, pageKey, field, overs, few, chosen, sorted, answer}
 use Rattle.promises.specs.Opening.{calls, calledFor, opened, upToBound}
 use Rattle.promises.specs.Foundations.{Agree, Counting, Listed, Upward, Standing, Onward, SameAnswers}
 use Rattle.promises.proofs.Lists.{all-at, all-from, in-map, in-kept, of-kept, pairwise-kept, pairwise-weaker, count-le, count-less, Lost, kept-or-lost, count-kept-le, count-into, count-sort, in-sort, of-sort, rising-sort, rising-same}
 use Rattle.promises.proofs.Keys.{before-trans, before-same, before-either, within-before}
-use Rattle.promises.proofs.Books.{of-joined, in-joined, Boxed, Shape, shape}
+use Rattle.promises.proofs.Books.{of-joined, in-joined, Shape, shape}
 
 abbrev pub Numbered : List stated.Station → Type 0
 Numbered = Pairwise (λ s t. s .number ≡ t .number → ⊥)
@@ -71,7 +71,7 @@ module _ (q : Query) (laws : Laws q) where
       no e =
           omega (arith, ltb-true _ _ h, l1 xs c (ltb-false _ _ e), count-into (overs q c) (chosen q xs) ys (distinct (chosen q xs) (pairwise-kept _ _ xs apart)) (λ s m k. f s m (near s k)))
 
-  in-opened : (b : Book) (u : Bound) {c : Child} → c ∈ calledFor q b → within u (pageKey q c) ≡ true → c .page ∈ opened q b u
+  pub in-opened : (b : Book) (u : Bound) {c : Child} → c ∈ calledFor q b → within u (pageKey q c) ≡ true → c .page ∈ opened q b u
   in-opened b u m w = there (in-map (λ c. c .page) (in-kept (λ c. within u (pageKey q c)) m w))
 
   -- what holds of the top and of each page called for within the bound holds of each page opened
@@ -168,9 +168,12 @@ module _ (q : Query) (laws : Laws q) where
       let k = of-kept (λ s. few q xs (s .at)) xs c in
       in-kept _ (in-sort _ (in-kept (λ s. few q ys (s .at)) (f s c (w .1)) (carry u ys xs apart g (s .at) (over-within u (s .at) Station (s .number) (w .1)) (k .1)))) (w .1)
 
+  pub rising-sorted : (xs : List stated.Station) → Numbered xs → Pairwise (λ s t. before (stationKey q s) (stationKey q t) ≡ true) (sorted q (chosen q xs))
+  rising-sorted xs apart =
+      rising-sort _ (λ r s t. before-trans (stationKey q r) (stationKey q s) (stationKey q t)) (chosen q xs) (pairwise-weaker _ _ (λ s t. before-either (stationKey q s) (stationKey q t)) (chosen q xs) (pairwise-kept _ _ xs apart))
+
   pub rising : (u : Bound) (xs : List stated.Station) → Numbered xs → Pairwise (λ s t. before (stationKey q s) (stationKey q t) ≡ true) (upToBound q u (sorted q (chosen q xs)))
-  rising u xs apart =
-      pairwise-kept _ _ (sorted q (chosen q xs)) (rising-sort _ (λ r s t. before-trans (stationKey q r) (stationKey q s) (stationKey q t)) (chosen q xs) (pairwise-weaker _ _ (λ s t. before-either (stationKey q s) (stationKey q t)) (chosen q xs) (pairwise-kept _ _ xs apart)))
+  rising u xs apart = pairwise-kept _ _ (sorted q (chosen q xs)) (rising-sorted xs apart)
 
 pub same-answers : SameAnswers
 same-answers q laws u b b′ lawful lawful′ agree =
@@ -188,8 +191,8 @@ counting-stands q laws b c h = rw (count-sort _ (overs q c) (chosen q (field q b
 same-test : (m n k : ℕ) → m ≤ n → (k ≤ n → k ≤ m) → ltb m k ≡ ltb n k
 same-test m n k h f = grind (arith, tells)
 
-pub listed : Listed
-listed q laws b c i n =
+pub listed-tests : Listed
+listed-tests q laws b c i n =
     same-test _ _ _ (omega (arith, count-kept-le p w (answer q b), s, count-kept-le p (λ s. few q (field q b) (s .at)) (field q b))) (λ h. ⊎-elim (λ l. omega (arith, l, counting-stands q laws b c h)) (λ l. absurd (both-ways _ (l .3) (laws .over-key (l .0 .at) c (l .2) Station (l .0 .number) i n))) (kept-or-lost p w (answer q b)))
   where
     p : stated.Station → Bool

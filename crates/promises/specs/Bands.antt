@@ -1,10 +1,8 @@
 -- The band question as a query: the stations of a region that fewer than k others there beat.
 use mathlib.Core.Path.{_≡_}
 use mathlib.Core.Bool.{_&&_}
-use mathlib.Core.List.{List}
 use Prim.Native.Nat.{ℕ, max, _≤_}
 use Rattle.stations.specs.declared.measures.Measures.{Measures}
-use Rattle.stations.specs.declared.region.Region.{Region}
 use Rattle.stations.specs.declared.question.Question.{Question}
 use Rattle.stations.specs.Beating.{_≼_, atMost, beats}
 use Rattle.stations.specs.Play.{inside}

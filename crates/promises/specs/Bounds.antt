@@ -9,6 +9,7 @@ pub data Bound : Type 0 where
   below : Key → Bound
   upTo : Key → Bound
 
+-- the bound holds the key
 abbrev pub within : Bound → Key → Bool
 within all k = true
 within (below κ) k = before k κ

@@ -2,9 +2,14 @@ pub mod Bounds
 pub mod Queries
 pub mod Opening
 pub mod Bands
-pub mod Foundations
 pub mod Settling
-pub mod Filling
 pub mod Waiting
 pub mod Searching
 pub mod Promises
+pub mod Histories
+pub mod Stepping
+pub mod Turning
+pub mod Foundations
+pub mod Filling
+pub mod Checking
+pub mod Cases

@@ -36,12 +36,13 @@ abbrev pub Frugal : Type 0
 Frugal = (q : Query) → Laws q → (b : Book) → Lawful b → (limits : Limits) (n : ℕ) (ps : List ℕ) → Settles q b ps →
     All (λ p. p ∈ ps) (openedAfter q b limits n) × (length (openedAfter q b limits n) ≤ length ps)
 
--- within the limits a search is done exactly when some set of live pages settles the question, and otherwise it names a dead page
+-- a search is done exactly when some set of live pages settles the question, and otherwise it names a dead page
 pub record Decides (q : Query) (b : Book) (limits : Limits) : Type 0 where
   pub done-settles : ending q b limits ≡ done → Settles q b (opened q b all)
   pub settled-done : (ps : List ℕ) → Settles q b ps → ending q b limits ≡ done
   pub names-dead : (ending q b limits ≡ done → ⊥) → (p : ℕ) × (κ : Key) × (ending q b limits ≡ halted (fault DeadPage p 0) κ) × (slot b p ≡ dead)
 
+-- so it is within the limits
 abbrev pub Decisive : Type 0
 Decisive = (q : Query) → Laws q → (b : Book) → Lawful b → (limits : Limits) → Within q b limits → Decides q b limits
 

@@ -30,6 +30,7 @@ pub record Query : Type 0 where
 abbrev pub keyAt : Query → Measures → Kind → ℕ → Key
 keyAt q p kind number = record { rank = q .rank p; sum = sum p; kind = kind; number = number }
 
+-- a station's key is that of its measures
 abbrev pub stationKey : Query → stated.Station → Key
 stationKey q s = keyAt q (s .at) Station (s .number)
 
@@ -37,11 +38,13 @@ stationKey q s = keyAt q (s .at) Station (s .number)
 abbrev pub pageKey : Query → Child → Key
 pageKey q c = keyAt q (q .corner (c .bounds)) Page (c .page)
 
+-- what the theory needs of a query, and nothing else
 pub record Laws (q : Query) : Type 0 where
   -- what is over measures is over all that are nowhere smaller
   pub over-down : (s a b : Measures) → q .over s a ≡ true → a ≼ b → q .over s b ≡ true
   -- what is over measures has a key before theirs, whatever the kinds and numbers
   pub over-key : (s c : Measures) → q .over s c ≡ true → (i : Kind) (m : ℕ) (j : Kind) (n : ℕ) → before (keyAt q s i m) (keyAt q c j n) ≡ true
+  -- what is over something is over all that that is over
   pub over-trans : (a b c : Measures) → q .over a b ≡ true → q .over b c ≡ true → q .over a c ≡ true
   -- a box with something in play has a corner, nowhere larger
   pub corner-below : (x : Measures) (b : Region) → Inside x b → q .inPlay x ≡ true → (q .cornered b ≡ true) × (q .corner b ≼ x)
@@ -71,9 +74,10 @@ module _ (q : Query) where
   abbrev pub chosen : List stated.Station → List stated.Station
   chosen xs = kept-by (λ s. few xs (s .at)) xs
 
+  -- in rising key order
   abbrev pub sorted : List stated.Station → List stated.Station
   sorted xs = sort (λ s t. before (stationKey q s) (stationKey q t)) xs
 
-  -- the answer over the live pages of a book, in rising key order
+  -- the answer over the live pages of a book
   abbrev pub answer : Book → List stated.Station
   answer b = sorted (chosen (field b))

@@ -44,6 +44,11 @@ abbrev pub haltOr : Option Fault → Key → Ending → Ending
 haltOr (Some f) κ later = halted f κ
 haltOr None κ later = later
 
+-- it does not end at a limit
+abbrev pub Unhindered : Ending → Type 0
+Unhindered done = Unit {0}
+Unhindered (halted f κ) = (f .code ≡ WaitingFull → ⊥) × (f .code ≡ ListFull → ⊥)
+
 -- what lies before the end is listed
 abbrev pub listedBound : Ending → Bound
 listedBound done = all
@@ -112,8 +117,6 @@ module _ (q : Query) (b : Book) where
     openedAfter zero = []
     openedAfter (suc n) = opened q b (boundAt q handed ending n)
 
-    -- no page that is called for leaves too many waiting, and the answer is no longer than the list may be
-    pub record Within : Type 0 where
-      pub top : length (waiting q b (below topKey)) ≤ limits .mostWaiting
-      pub pages : All (λ c. length (waiting q b (upTo (pageKey q c))) ≤ limits .mostWaiting) (calledFor q b)
-      pub stations : length (answer q b) ≤ limits .mostListed
+    -- driven on, the search passes neither limit before it says done or refuses
+    abbrev pub Within : Type 0
+    Within = Unhindered ending

@@ -8,28 +8,32 @@ use Rattle.stations.specs.declared.measures.Measures.{Measures}
 use Rattle.stations.specs.declared.station.Station as stated
 use Rattle.stations.specs.declared.key.Key.{Key}
 use Rattle.stations.specs.Counting.{count}
-use Rattle.books.specs.declared.Child.{Child}
 use Rattle.books.specs.declared.Entry.{Entry}
 use Rattle.books.specs.declared.Entry.the-variants.{Page, Station}
-use Rattle.books.specs.Books.{Slot, dead, leaf, node, Book}
+use Rattle.books.specs.Books.{Book, entriesOn}
 use Rattle.promises.specs.Bounds.{Bound, below, within}
 use Rattle.promises.specs.Queries.{Query, stationKey, pageKey, few}
-use Rattle.promises.specs.Opening.{calls, calledFor, listed}
+use Rattle.promises.specs.Opening.{calledFor, listed}
 
 module _ (q : Query) where
+  -- the key by which an entry is taken
   abbrev pub keyOf : Entry → Key
   keyOf (Page c) = pageKey q c
   keyOf (Station s) = stationKey q s
 
-  -- not set aside while these stations are listed: it is in play, and fewer than k of them are over it
-  abbrev pub passes : List stated.Station → Entry → Bool
-  passes xs (Page c) = calls q xs c
-  passes xs (Station s) = q .inPlay (s .at) && few q xs (s .at)
+  -- the measures that stations are held against: a page's corner, or the station's own
+  abbrev pub measuresOf : Entry → Measures
+  measuresOf (Page c) = q .corner (c .bounds)
+  measuresOf (Station s) = s .at
 
-abbrev pub entriesOn : Slot → List Entry
-entriesOn dead = []
-entriesOn (leaf ss) = map Station ss
-entriesOn (node l cs) = map Page cs
+  -- a page with a corner, or a station in play
+  abbrev pub counts : Entry → Bool
+  counts (Page c) = q .cornered (c .bounds)
+  counts (Station s) = q .inPlay (s .at)
+
+  -- not set aside while these stations are listed: it counts, and fewer than k of them are over it
+  abbrev pub passes : List stated.Station → Entry → Bool
+  passes xs e = counts e && few q xs (measuresOf e)
 
 -- an entry with the page that it stands on
 pub record Place : Type 0 where
@@ -55,5 +59,6 @@ module _ (q : Query) (b : Book) where
   abbrev pub waits : Bound → Place → Bool
   waits u e = passed u e && not (within u (keyOf q (e .entry)))
 
+  -- the entries that wait once the search has come as far as the bound
   abbrev pub waiting : Bound → List Entry
   waiting u = map (λ e. e .entry) (kept-by (waits u) (places 0 b))

@@ -3,11 +3,11 @@ use Prim.Native.Nat.{ℕ, _*_, _^_, _<_, _≤_}
 use native.Mathlib.Nat.{mul-le-mul, mul-le-mul-left}
 use native.Mathlib.Omega.{arith}
 use Rattle.stations.specs.declared.measures.Measures.{Measures}
-use Rattle.stations.specs.Beating.{_≼_}
+use Rattle.stations.specs.Beating.{Ordinary, _≼_}
 use Rattle.rankings.specs.declared.weights.Weights.{Weights}
 use Rattle.rankings.specs.declared.weights.Ranker.{Ranker}
 use Rattle.rankings.specs.declared.weights.Ranker.the-variants.{Sum, Largest}
-use Rattle.rankings.specs.Scores.{Ordinary, weightedSum, largestProduct, rankerScore}
+use Rattle.rankings.specs.Scores.{weightedSum, largestProduct, rankerScore}
 
 -- the product of a weight and an ordinary measure
 pub product-small : (w m : ℕ) → w ≤ 1000 → m < 2 ^ 16 → w * m ≤ 65535000

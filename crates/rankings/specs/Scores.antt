@@ -1,18 +1,11 @@
 -- What the supplied rankings mean.
 use mathlib.Core.Path.{_≡_}
 use mathlib.Core.Logic.{_⊎_}
-use Prim.Native.Nat.{ℕ, _+_, _*_, _^_, _<_, max}
+use Prim.Native.Nat.{ℕ, _+_, _*_, _<_, max}
 use Rattle.stations.specs.declared.measures.Measures.{Measures}
 use Rattle.rankings.specs.declared.weights.Weights.{Weights}
 use Rattle.rankings.specs.declared.weights.Ranker.{Ranker}
 use Rattle.rankings.specs.declared.weights.Ranker.the-variants.{Sum, Largest}
-
--- measures as any input has them: each below 65,536
-pub record Ordinary (p : Measures) : Type 0 where
-  pub in1 : p .m1 < 2 ^ 16
-  pub in2 : p .m2 < 2 ^ 16
-  pub in3 : p .m3 < 2 ^ 16
-  pub in4 : p .m4 < 2 ^ 16
 
 -- S: the four products added
 abbrev pub weightedSum : Weights → Measures → ℕ

@@ -3,15 +3,16 @@ ghost use mathlib.Core.Path.{_≡_};
 ghost use Prim.Native.Nat.{ℕ, _*_, _^_, _<_, _≤_};
 ghost use Rattle.std.specs.Results.{Cases};
 ghost use Rattle.stations.specs.declared.measures.Measures.{Measures};
-ghost use Rattle.stations.specs.Beating.{_≼_};
+ghost use Rattle.stations.specs.Beating.{Ordinary, _≼_};
 ghost use Rattle.stations.specs.Faults.{placeless};
 ghost use Rattle.stations.specs.declared.fault.Code.the-variants.{OutOfRange};
-ghost use Rattle.rankings.specs.Scores.{Ordinary, weightedSum, largestProduct, rankerScore, TooHeavy, Weighs};
+ghost use Rattle.rankings.specs.Scores.{weightedSum, largestProduct, rankerScore, TooHeavy, Weighs};
 use stations::Code;
 use stations::Fault;
 use stations::Measures;
 
 mod weights;
+
 pub use weights::LargestProduct;
 pub use weights::Ranker;
 pub use weights::WeightedSum;
@@ -26,7 +27,11 @@ impl Weights {
         ensures { λ r. ⌜ Cases r (λ w. Weighs w w1 w2 w3 w4) (λ f. (f ≡ placeless OutOfRange) × TooHeavy w1 w2 w3 w4) ⌝ }
     {
         if w1 > MOST_WEIGHT || w2 > MOST_WEIGHT || w3 > MOST_WEIGHT || w4 > MOST_WEIGHT {
-            return Err(Fault { code: Code::OutOfRange, first: 0, second: 0 });
+            return Err(Fault {
+                code: Code::OutOfRange,
+                first: 0,
+                second: 0,
+            });
         }
         Ok(Weights { w1, w2, w3, w4 })
     }

@@ -15,11 +15,11 @@ use Rattle.std.proofs.shelf.Tests.{ltb-false, eqb-false, eqb-true, or-parts, ca
 use Rattle.stations.specs.declared.fault.Fault.{Fault}
 use Rattle.stations.specs.declared.fault.Code.the-variants.{OutOfRange, TooManyStations, RepeatedNumber}
 use Rattle.stations.specs.declared.station.Station.{Station}
-use Rattle.stations.specs.Beating.{_≼_}
+use Rattle.stations.specs.Beating.{Ordinary}
 use Rattle.stations.specs.Counting.{bit, count}
 use Rattle.stations.specs.Faults.{fault, placeless, refuseIf, orElse, verdict}
 use Rattle.stations.specs.Rows.{holdsNumber, zeroFault, repeatFault, mostStations, rowFault}
-use Rattle.books.specs.Books.{worst, numbered, Lawful}
+use Rattle.books.specs.Books.{numbered, Lawful}
 use Rattle.rolls.specs.Rolls.{rollBook}
 use Rattle.rolls.specs.Laws.{Sound}
 use Rattle.rolls.proofs.Pages.{count-append}
@@ -64,7 +64,7 @@ no-repeat earlier i (s ∷ ss) h e n =
         go true p = omega (arith, subst (λ j. count (numbered j) earlier ≡ 0) (eqb-true (s .number) m p) (none-held (s .number) earlier (k .0)))
         go false p = omega (arith, h m)
 
-pub sound : (row : List Station) → rowFault row ≡ None → All (λ s. (s .at) ≼ worst) row → Sound row
+pub sound : (row : List Station) → rowFault row ≡ None → All (λ s. Ordinary (s .at)) row → Sound row
 sound row e measures =
     let h = both-pass (ltb mostStations (length row)) (placeless TooManyStations) (orElse (zeroFault 0 row) (repeatFault [] 0 row)) e in
     let k = then-pass (zeroFault 0 row) (repeatFault [] 0 row) (h .1) in

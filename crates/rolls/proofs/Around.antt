@@ -8,8 +8,8 @@ use Rattle.std.proofs.shelf.Elements.{all-weaker}
 use Rattle.stations.specs.declared.measures.Measures.{Measures}
 use Rattle.stations.specs.declared.station.Station.{Station}
 use Rattle.stations.specs.declared.region.Region.{Region}
-use Rattle.stations.specs.Beating.{_≼_}
-use Rattle.books.specs.Books.{Inside, Nested, worst}
+use Rattle.stations.specs.Beating.{Ordinary, _≼_}
+use Rattle.books.specs.Books.{Inside, Nested}
 use Rattle.rolls.specs.Boxes.{point, widen, widenAll, around}
 
 nested-trans : (a b c : Region) → Nested a b → Nested b c → Nested a c
@@ -51,6 +51,11 @@ pub around-ordered : (ss : List Station) → 1 ≤ length ss → (around ss .low
 around-ordered [] h = absurd (omega arith)
 around-ordered (s ∷ ss) h = let k = around-holds (s ∷ ss) .0 in omega arith
 
-pub around-high : (ss : List Station) → 1 ≤ length ss → All (λ s. (s .at) ≼ worst) ss → (around ss .high) ≼ worst
+-- the box of all ordinary measures
+abbrev widest : Region
+widest = record { low = record { m1 = 0; m2 = 0; m3 = 0; m4 = 0 }; high = record { m1 = 65535; m2 = 65535; m3 = 65535; m4 = 65535 } }
+
+pub around-high : (ss : List Station) → 1 ≤ length ss → All (λ s. Ordinary (s .at)) ss → Ordinary (around ss .high)
 around-high ss h k =
-    around-least ss (record { low = record { m1 = 0; m2 = 0; m3 = 0; m4 = 0 }; high = worst }) h (all-weaker (λ s. (s .at) ≼ worst) (λ s. Inside (s .at) (record { low = record { m1 = 0; m2 = 0; m3 = 0; m4 = 0 }; high = worst })) (λ s j. record { above = omega arith; below = j }) ss k) .below
+    let lies = around-least ss widest h (all-weaker (λ s. Ordinary (s .at)) (λ s. Inside (s .at) widest) (λ s j. omega arith) ss k) in
+    omega (arith, lies .below)

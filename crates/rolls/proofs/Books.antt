@@ -13,10 +13,10 @@ use Rattle.std.proofs.shelf.Ways.{tells}
 use Rattle.std.proofs.shelf.Elements.{all-weaker}
 use Rattle.std.proofs.shelf.Counted.{length-map-counting}
 use Rattle.stations.specs.declared.station.Station.{Station}
-use Rattle.stations.specs.Beating.{_≼_}
+use Rattle.stations.specs.Beating.{Ordinary, _≼_}
 use Rattle.stations.specs.Counting.{bit, count}
 use Rattle.books.specs.declared.Child.{Child}
-use Rattle.books.specs.Books.{Slot, dead, leaf, node, Book, slot, level, childrenOn, size, stations, named, names, numbered, IsLive, Fits, Filled, worst, Lawful, Whole}
+use Rattle.books.specs.Books.{Slot, dead, leaf, node, Book, slot, level, childrenOn, size, stations, named, names, numbered, IsLive, Fits, Filled, Lawful, Whole}
 use Rattle.rolls.specs.Boxes.{around}
 use Rattle.rolls.specs.Rolls.{part, span, pagesOf, topLevel, child, children, pageAt, pagesFrom, rollBook}
 use Rattle.rolls.specs.Laws.{LeastOf, LeastBoxes, Sound, RollLaws, RowsMakeBooks}
@@ -45,7 +45,7 @@ record Kept (b : Book) (c : Child) : Type 0 where
   live : IsLive (slot b (c .page))
   least : LeastOf (c .bounds) (slot b (c .page))
   ordered : (c .bounds .low) ≼ (c .bounds .high)
-  high : (c .bounds .high) ≼ worst
+  high : Ordinary (c .bounds .high)
 
 -- that is all that they ask, where each page but the top is named once and no other
 module _ (b : Book) (top : IsLive (slot b 0)) (good : (p : ℕ) → Good b p (slot b p)) (kept : All (Kept b) (named b)) (counted : (p : ℕ) → count (names p) (named b) ≡ within 1 (length b) p) where
@@ -75,7 +75,7 @@ module _ (b : Book) (top : IsLive (slot b 0)) (good : (p : ℕ) → Good b p (sl
     numbered-once = rw same (sound .numbered-once);
   }
 
-module _ (row : List Station) (some : 1 ≤ length row) (measured : All (λ s. (s .at) ≼ worst) row) (b : Book) where
+module _ (row : List Station) (some : 1 ≤ length row) (measured : All (λ s. Ordinary (s .at)) row) (b : Book) where
   -- the end of the book is the pages of level l and below, from the page number first
   record Ends (l first : ℕ) : Type 0 where
     at : (k : ℕ) → k < length (pagesFrom row l first) → slot b (first + k) ≡ getD (pagesFrom row l first) k dead
@@ -99,7 +99,7 @@ module _ (row : List Station) (some : 1 ≤ length row) (measured : All (λ s. (
     live = subst IsLive (sym (slot-at l first i e h)) (page-live row l (first + pages row l) i);
     least = subst (LeastOf (around (part (span l) row i))) (sym (slot-at l first i e h)) (page-least row some l (first + pages row l) i h);
     ordered = around-ordered (part (span l) row i) (part-some row some l i h);
-    high = around-high (part (span l) row i) (part-some row some l i h) (all-part (λ s. (s .at) ≼ worst) (span l) row i measured);
+    high = around-high (part (span l) row i) (part-some row some l i h) (all-part (λ s. Ordinary (s .at)) (span l) row i measured);
   }
 
   all-kept : (l first : ℕ) → Ends l first → All (Kept b) (named (pagesFrom row l first))

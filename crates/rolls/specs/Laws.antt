@@ -6,10 +6,10 @@ use lib.ListN.{length}
 use Rattle.std.specs.shelf.Lists.{All}
 use Rattle.stations.specs.declared.station.Station.{Station}
 use Rattle.stations.specs.declared.region.Region.{Region}
-use Rattle.stations.specs.Beating.{_≼_}
+use Rattle.stations.specs.Beating.{Ordinary}
 use Rattle.stations.specs.Counting.{count}
 use Rattle.stations.specs.Rows.{mostStations}
-use Rattle.books.specs.Books.{Slot, dead, leaf, node, Book, slot, stations, named, numbered, Inside, Nested, worst, Lawful, Whole}
+use Rattle.books.specs.Books.{Slot, dead, leaf, node, Book, slot, stations, named, numbered, Inside, Nested, Lawful, Whole}
 use Rattle.rolls.specs.Rolls.{rollBook}
 
 -- what stands on the page lies in the box: each station of a leaf, and the box of each page that a node names
@@ -35,7 +35,7 @@ pub record Sound (row : List Station) : Type 0 where
   -- no two stations have one number
   pub numbered-once : (n : ℕ) → count (numbered n) row ≤ 1
   -- no measure is above 65,535
-  pub measures : All (λ s. (s .at) ≼ worst) row
+  pub measures : All (λ s. Ordinary (s .at)) row
 
 -- what a row's book keeps
 pub record RollLaws (row : List Station) : Type 0 where

@@ -29,11 +29,12 @@ pagesOf n (suc l) = (pagesOf n l + 11) / 12
 abbrev pub topLevel : ℕ → ℕ
 topLevel n = cond (eqb (pagesOf n 0) 1) 0 (cond (eqb (pagesOf n 1) 1) 1 2)
 
--- how many pages of the levels from 0 to l it makes, and how many in all
+-- how many pages of the levels from 0 to l it makes
 abbrev pub pagesTo : ℕ → ℕ → ℕ
 pagesTo n zero = pagesOf n 0
 pagesTo n (suc l) = pagesOf n (suc l) + pagesTo n l
 
+-- how many pages it makes in all
 abbrev pub pageCount : ℕ → ℕ
 pageCount n = pagesTo n (topLevel n)
 
@@ -59,5 +60,6 @@ abbrev pub pagesFrom : List Station → ℕ → ℕ → Book
 pagesFrom row zero first = levelPages row 0 (first + pagesOf (length row) 0)
 pagesFrom row (suc l) first = levelPages row (suc l) (first + pagesOf (length row) (suc l)) ++ pagesFrom row l (first + pagesOf (length row) (suc l))
 
+-- the book of a row: its pages by level, from the top, and then by place
 abbrev pub rollBook : List Station → Book
 rollBook row = pagesFrom row (topLevel (length row)) 0

@@ -18,15 +18,19 @@ use Rattle.rolls.specs.Facts.{lawful-out}
 abbrev pub rowIn : Roll → List Station
 rowIn s = s .row .now
 
+-- the book that the roll is read as
 abbrev pub bookOf : Roll → Book
 bookOf s = rollBook (rowIn s)
 
+-- how many pages it has
 abbrev pub pagesIn : Roll → ℕ
 pagesIn s = length (bookOf s)
 
+-- how many reads were asked of it
 abbrev pub readsOf : Roll → ℕ
 readsOf s = s .meter
 
+-- a roll is a source
 pub roll-laws : SourceLaws Roll 105 bookOf pagesIn readsOf
 roll-laws = record { few = omega arith; some = λ s. s .some; fits = λ s. s .fits; sized = λ s. refl; lawful = λ s. lawful-out (bookOf s) (s .lawful); metered = λ s. s .metered }
 

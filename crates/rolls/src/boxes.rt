@@ -13,8 +13,18 @@ fn widen(bounds: Region, at: Measures) -> Region
 {
     let Region { low, high } = bounds;
     Region {
-        low: Measures { m1: low.m1.min(at.m1), m2: low.m2.min(at.m2), m3: low.m3.min(at.m3), m4: low.m4.min(at.m4) },
-        high: Measures { m1: high.m1.max(at.m1), m2: high.m2.max(at.m2), m3: high.m3.max(at.m3), m4: high.m4.max(at.m4) },
+        low: Measures {
+            m1: low.m1.min(at.m1),
+            m2: low.m2.min(at.m2),
+            m3: low.m3.min(at.m3),
+            m4: low.m4.min(at.m4),
+        },
+        high: Measures {
+            m1: high.m1.max(at.m1),
+            m2: high.m2.max(at.m2),
+            m3: high.m3.max(at.m3),
+            m4: high.m4.max(at.m4),
+        },
     }
 }
 

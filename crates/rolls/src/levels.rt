@@ -2,7 +2,7 @@
 ghost use mathlib.Core.Path.{_≡_};
 ghost use Prim.Native.Nat.{_≤_};
 ghost use Rattle.stations.specs.Rows.{mostStations};
-ghost use Rattle.rolls.specs.Rolls.{span as spanOf, pagesOf, topLevel};
+ghost use Rattle.rolls.specs.Rolls.{span as spanOf, pagesOf, topLevel, pageCount};
 
 const SPANS: [usize; 3] = [12, 144, 1728];
 
@@ -33,4 +33,16 @@ pub fn top_level(len: usize) -> usize
     } else {
         2
     }
+}
+
+// How many pages a row of so many stations makes.
+pub fn page_count(len: usize) -> usize
+    requires { ⌜ len ≤ mostStations ⌝ }
+    ensures { λ r. ⌜ r ≡ pageCount len ⌝ }
+{
+    let mut pages = 0;
+    for level in 0..top_level(len) + 1 {
+        pages += pages_of(len, level);
+    }
+    pages
 }

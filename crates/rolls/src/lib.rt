@@ -7,6 +7,7 @@ mod measured;
 mod place;
 mod roll;
 mod showing;
+
 pub use roll::Roll;
 pub use roll::RollSource;
 

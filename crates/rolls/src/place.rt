@@ -26,7 +26,11 @@ pub fn place_of(row: &[Station], page: usize) -> Option<Place>
     for level in (0..top_level(row.len()) + 1).rev() {
         let below = first + pages_of(row.len(), level);
         if page < below {
-            return Some(Place { level, index: page - first, below });
+            return Some(Place {
+                level,
+                index: page - first,
+                below,
+            });
         }
         first = below;
     }

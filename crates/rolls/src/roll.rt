@@ -8,6 +8,7 @@ use stations::Station;
 
 mod making;
 mod source;
+
 pub use source::RollSource;
 
 // A row of stations that is read as a book, and how often a page of it was asked for. The row stays lent.

@@ -5,19 +5,27 @@ ghost use lib.ListN.{length};
 ghost use Rattle.stations.specs.Rows.{mostStations};
 ghost use Rattle.sources.specs.Sources.{Shows};
 ghost use Rattle.rolls.specs.Rolls.{part, span as spanOf, pagesOf, topLevel, pageCount, child as childOf, pageAt};
-use books::Child;
-use books::Entry;
 use crate::boxes::around;
 use crate::levels::pages_of;
 use crate::levels::span;
 use crate::place::Place;
+use books::Child;
+use books::Entry;
 use sources::MOST_ENTRIES;
 use sources::Page;
 use stations::Measures;
 use stations::Station;
 
 // What stands past the last entry of a page; nobody reads it.
-const NOTHING: Entry = Entry::Station(Station { number: 0, at: Measures { m1: 0, m2: 0, m3: 0, m4: 0 } });
+const NOTHING: Entry = Entry::Station(Station {
+    number: 0,
+    at: Measures {
+        m1: 0,
+        m2: 0,
+        m3: 0,
+        m4: 0,
+    },
+});
 
 // The page of level 0 at the index.
 fn leaf(row: &[Station], index: usize) -> Page
@@ -31,7 +39,11 @@ fn leaf(row: &[Station], index: usize) -> Page
     for i in 0..len {
         entries[i] = Entry::Station(row[from + i]);
     }
-    Page { level: 0, len, entries }
+    Page {
+        level: 0,
+        len,
+        entries,
+    }
 }
 
 // The stations below the page of the level at the index.
@@ -57,7 +69,10 @@ fn child(row: &[Station], level: usize, first: usize, index: usize) -> Child
     requires near { ⌜ first ≤ 105 ⌝ }
     ensures { λ r. ⌜ r ≡ childOf (now (row .entry)) level first index ⌝ }
 {
-    Child { page: (first + index) as u32, bounds: around(spanned(row, level, index)) }
+    Child {
+        page: (first + index) as u32,
+        bounds: around(spanned(row, level, index)),
+    }
 }
 
 // The page of the level above `level` at the index, where `below` is the number of the first page that it can name.
@@ -75,7 +90,11 @@ fn node(row: &[Station], level: usize, below: usize, index: usize) -> Page
     for i in 0..len {
         entries[i] = Entry::Page(child(row, level, below, from + i));
     }
-    Page { level: level as u8 + 1, len, entries }
+    Page {
+        level: level as u8 + 1,
+        len,
+        entries,
+    }
 }
 
 // The page at a place.

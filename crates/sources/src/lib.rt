@@ -6,6 +6,7 @@ ghost use Rattle.sources.specs.Sources.{SourceLaws, Reads};
 use stations::Fault;
 
 mod page;
+
 pub use page::MOST_ENTRIES;
 pub use page::Page;
 

@@ -1,8 +1,15 @@
 -- Measures compared. Small is good, so a station beats another by being nowhere larger and somewhere smaller.
 use mathlib.Core.Bool.{Bool, _&&_, _||_}
-use Prim.Native.Nat.{ℕ, _+_, _≤_}
+use Prim.Native.Nat.{ℕ, _+_, _^_, _<_, _≤_}
 use lib.Dec.{leb, ltb}
 use Rattle.stations.specs.declared.measures.Measures.{Measures}
+
+-- measures as any input has them: numbers of 16 bits
+pub record Ordinary (p : Measures) : Type 0 where
+  pub in1 : p .m1 < 2 ^ 16
+  pub in2 : p .m2 < 2 ^ 16
+  pub in3 : p .m3 < 2 ^ 16
+  pub in4 : p .m4 < 2 ^ 16
 
 infixl 20 _≼_
 -- no measure of p is larger than q's

@@ -6,6 +6,7 @@ mod question;
 mod region;
 mod row;
 mod station;
+
 pub use fault::Code;
 pub use fault::CodePartialEq;
 pub use fault::Fault;

@@ -19,10 +19,18 @@ impl Question {
         ensures { λ r. ⌜ r ≡ verdict (questionFault self) ⌝ }
     {
         if self.k < 1 || self.k > 8 {
-            return Err(Fault { code: Code::BandCount, first: 0, second: 0 });
+            return Err(Fault {
+                code: Code::BandCount,
+                first: 0,
+                second: 0,
+            });
         }
         if !self.region.is_ordered() {
-            return Err(Fault { code: Code::RegionOrder, first: 0, second: 0 });
+            return Err(Fault {
+                code: Code::RegionOrder,
+                first: 0,
+                second: 0,
+            });
         }
         Ok(())
     }

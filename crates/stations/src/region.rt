@@ -2,8 +2,8 @@
 ghost use mathlib.Core.Path.{_≡_};
 ghost use Rattle.stations.specs.Beating.{atMost};
 ghost use Rattle.stations.specs.Play.{inside};
-use crate::measures::Measures;
 use crate::MeasuresPartialEq;
+use crate::measures::Measures;
 
 #[derive(Clone, Copy, PartialEq, Eq)]
 pub struct Region {

@@ -30,7 +30,11 @@ fn check_zero(row: &[Station]) -> Result<(), Fault>
 {
     for i in 0..row.len() {
         if row[i].number == 0 {
-            return Err(Fault { code: Code::OutOfRange, first: i as u32, second: 0 });
+            return Err(Fault {
+                code: Code::OutOfRange,
+                first: i as u32,
+                second: 0,
+            });
         }
     }
     Ok(())
@@ -43,7 +47,11 @@ fn check_repeats(row: &[Station]) -> Result<(), Fault>
 {
     for i in 0..row.len() {
         if holds_number(&row[0..i], row[i].number) {
-            return Err(Fault { code: Code::RepeatedNumber, first: i as u32, second: 0 });
+            return Err(Fault {
+                code: Code::RepeatedNumber,
+                first: i as u32,
+                second: 0,
+            });
         }
     }
     Ok(())
@@ -54,7 +62,11 @@ pub fn check_row(row: &[Station]) -> Result<(), Fault>
     ensures { λ r. ⌜ r ≡ verdict (rowFault (now (row .entry))) ⌝ }
 {
     if row.len() > MOST_STATIONS {
-        return Err(Fault { code: Code::TooManyStations, first: 0, second: 0 });
+        return Err(Fault {
+            code: Code::TooManyStations,
+            first: 0,
+            second: 0,
+        });
     }
     check_zero(row)?;
     check_repeats(row)

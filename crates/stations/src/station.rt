@@ -1,9 +1,9 @@
 ghost use mathlib.Core.Path.{_≡_};
 ghost use Rattle.stations.specs.Keys.{stationKey};
+use crate::MeasuresPartialEq;
 use crate::key::Key;
 use crate::key::Kind;
 use crate::measures::Measures;
-use crate::MeasuresPartialEq;
 
 // A place in the well where the tester may be set, by its number and its measures.
 #[derive(Clone, Copy, PartialEq, Eq)]
@@ -17,6 +17,11 @@ impl Station {
     pub fn key(self, rank: u64) -> Key
         ensures { λ r. ⌜ r ≡ stationKey rank self ⌝ }
     {
-        Key { rank, sum: self.at.sum(), kind: Kind::Station, number: self.number }
+        Key {
+            rank,
+            sum: self.at.sum(),
+            kind: Kind::Station,
+            number: self.number,
+        }
     }
 }

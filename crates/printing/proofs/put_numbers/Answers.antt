@@ -24,8 +24,9 @@ add-end c =
 pub loop-i-again : need.loop-i-again
 loop-i-again c =
     let e : c .if-i-numbers .out ≡ ender (drop (c .loop-i .i + 1) (c .args .numbers .now)) = elim (c .if-i-numbers .came) [
-          then-i-numbers w ↦ w .out-is ∙ sym (ender-more (c .args .numbers .now) (c .loop-i .i) (w .if-i-numbers .taken))
-        | else-i-numbers w ↦ w .out-is ∙ sym (ender-last (c .args .numbers .now) (c .loop-i .i) (w .if-i-numbers .left)) ] in
+      | then-i-numbers w ↦ w .out-is ∙ sym (ender-more (c .args .numbers .now) (c .loop-i .i) (w .if-i-numbers .taken))
+      | else-i-numbers w ↦ w .out-is ∙ sym (ender-last (c .args .numbers .now) (c .loop-i .i) (w .if-i-numbers .left))
+    ] in
     number-written (c .args .numbers .now) (c .loop-i .i) (c .loop-i-test .taken) (c .loop-i .inv) (c .if-i-numbers .out) (c .put-decimal-end .ensures)
     (omega (arith, number-room (c .args .numbers .now) (c .loop-i .i) (c .loop-i-test .taken) (c .loop-i .inv) (c .pre), c .put-decimal-end .ensures .ends)) e
 

@@ -4,6 +4,7 @@ ghost use mathlib.Core.List.{[]};
 ghost use Rattle.stations.specs.Faults.{verdict};
 ghost use Rattle.stations.specs.Rows.{rowFault};
 ghost use Rattle.rolls.specs.Source.{rowIn, pagesIn, readsOf, taken};
+use crate::levels::page_count;
 use crate::measured::measure_all;
 use crate::roll::Roll;
 use stations::Fault;
@@ -18,7 +19,10 @@ impl<'a> Roll<'a> {
         ensures row { λ r. ⌜ rowIn r ≡ [] ⌝ }
         ensures meter { λ r. ⌜ readsOf r ≡ 0 ⌝ }
     {
-        Roll { row: &EMPTY_ROW, meter: 0 }
+        Roll {
+            row: &EMPTY_ROW,
+            meter: 0,
+        }
     }
 
     // Takes another row, or refuses it, as `check_row` does, and keeps the former one. The meter goes on in either case.
@@ -31,5 +35,19 @@ impl<'a> Roll<'a> {
         measure_all(row);
         self.row = row;
         Ok(())
+    }
+
+    // How many pages the book has.
+    pub fn pages(&self) -> u32
+        ensures { λ r. ⌜ r ≡ pagesIn (now (self .entry)) ⌝ }
+    {
+        page_count(self.row.len()) as u32
+    }
+
+    // How many reads were asked of the roll, modulo 2^64.
+    pub fn meter(&self) -> u64
+        ensures { λ r. ⌜ r ≡ readsOf (now (self .entry)) ⌝ }
+    {
+        self.meter
     }
 }

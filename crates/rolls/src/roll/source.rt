@@ -32,7 +32,11 @@ pub impl<'a> PageSource for Roll<'a> as RollSource {
         self.meter = self.meter.wrapping_add(1);
         match place_of(self.row, page as usize) {
             Some(place) => Ok(page_at(self.row, place)),
-            None => Err(Fault { code: Code::PageNumber, first: page, second: 0 }),
+            None => Err(Fault {
+                code: Code::PageNumber,
+                first: page,
+                second: 0,
+            }),
         }
     }
 }

@@ -23,9 +23,10 @@ loop-i-again c =
     let many = pagesOf (length (c .args .row .now)) (c .args .level) in
     let place = c .args .index * 12 + c .loop-i .i in
     let here : place < many = omega (arith, c .min-len .ensures, c .pages-of .ensures) in
-    let known = c .child .ensures ∙ sym (getD-map-counting made 0 many place place (c .child .result) here (omega arith)) in
-    (length-set _ _ _ ∙ c .loop-i .inv .0,
-      stored entries.Page (children (c .args .row .now) (c .args .level) (c .args .below)) (c .args .index * 12) (c .loop-i .entries) (c .loop-i .i) (c .child .result) (c .child .result) (omega (arith, c .loop-i .inv .0, c .min-len .ensures)) (rw length-map-counting here) known (c .loop-i .inv .1))
+    let known = c .child .ensures ∙ sym (getD-map-counting made 0 many place place (c .child .result) here (omega arith)) in (
+      length-set _ _ _ ∙ c .loop-i .inv .0,
+      stored entries.Page (children (c .args .row .now) (c .args .level) (c .args .below)) (c .args .index * 12) (c .loop-i .entries) (c .loop-i .i) (c .child .result) (c .child .result) (omega (arith, c .loop-i .inv .0, c .min-len .ensures)) (rw length-map-counting here) known (c .loop-i .inv .1),
+    )
 
 pub returns : need.returns
 returns c = record {

@@ -1,0 +1,13 @@
+pub mod Spelling
+pub mod Cuts
+pub mod Scans
+pub mod Fields
+pub mod Ranges
+pub mod Verdicts
+pub mod Heads
+pub mod Rows
+pub mod Joins
+pub mod Writing
+pub mod Texts
+pub mod Readings
+pub mod Laws

@@ -1,0 +1,9 @@
+use mathlib.Core.Path.{sym, _∙_}
+use native.Mathlib.Omega.{arith}
+use borrow.Author.Needs.{needs}
+use lib.ListN.{length}
+use Rattle.rolls.proofs.Counts.{length-roll, count-few}
+use Rattle.rolls.proofs.roll.Roll.pages.Needs as need
+
+pub returns : need.returns
+returns c = c .page-count .ensures ∙ sym (length-roll (c .args .self .now .row .now))
