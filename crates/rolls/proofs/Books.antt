@@ -2,7 +2,7 @@
 use mathlib.Core.Path.{_≡_, refl, sym, _∙_, ap, ap₂, subst}
 use mathlib.Core.Logic.{⊎-elim}
 use mathlib.Core.List.{List, [], _∷_}
-use Prim.Native.Nat.{ℕ, zero, suc, _+_, _*_, _-_, _/_, min, _≤_, _<_}
+use Prim.Native.Nat.{ℕ, zero, suc, _+_, _*_, _-_, _≤_, _<_}
 use native.Mathlib.Nat.{zero-add}
 use native.Mathlib.Omega.{arith}
 use lib.ListN.{length, getD}
@@ -14,11 +14,11 @@ use Rattle.std.proofs.shelf.Elements.{all-weaker}
 use Rattle.std.proofs.shelf.Counted.{length-map-counting}
 use Rattle.stations.specs.declared.station.Station.{Station}
 use Rattle.stations.specs.Beating.{Ordinary, _≼_}
-use Rattle.stations.specs.Counting.{bit, count}
+use Rattle.stations.specs.Counting.{count}
 use Rattle.books.specs.declared.Child.{Child}
-use Rattle.books.specs.Books.{Slot, dead, leaf, node, Book, slot, level, childrenOn, size, stations, named, names, numbered, IsLive, Fits, Filled, Lawful, Whole}
+use Rattle.books.specs.Books.{Slot, dead, leaf, Book, slot, level, childrenOn, size, stations, named, names, IsLive, Fits, Filled, Lawful, Whole}
 use Rattle.rolls.specs.Boxes.{around}
-use Rattle.rolls.specs.Rolls.{part, span, pagesOf, topLevel, child, children, pageAt, pagesFrom, rollBook}
+use Rattle.rolls.specs.Rolls.{part, span, topLevel, child, pageAt, pagesFrom, rollBook}
 use Rattle.rolls.specs.Laws.{LeastOf, LeastBoxes, Sound, RollLaws, RowsMakeBooks}
 use Rattle.rolls.proofs.Around.{around-ordered, around-high}
 use Rattle.rolls.proofs.Parts.{length-part, all-part, all-counted-part}

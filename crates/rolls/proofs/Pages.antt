@@ -1,28 +1,25 @@
 -- The pages of a roll, level by level, as they stand in a book.
-use mathlib.Core.Path.{_≡_, refl, sym, _∙_, ap, ap₂, subst, subst₂}
+use mathlib.Core.Path.{_≡_, sym, _∙_, ap, ap₂, subst}
 use mathlib.Core.Bool.{Bool, _&&_}
-use mathlib.Core.Logic.{⊎-elim}
 use mathlib.Core.List.{List, [], _∷_, _++_, map}
-use Prim.Native.Nat.{ℕ, zero, suc, _+_, _*_, _-_, _/_, min, _≤_, _<_}
+use Prim.Native.Nat.{ℕ, zero, suc, _+_, _-_, _≤_, _<_}
 use native.Mathlib.Nat.{add-zero}
 use native.Mathlib.Omega.{arith}
 use lib.Dec.{leb, ltb}
 use lib.ListN.{length, getD}
 use Rattle.std.specs.Iters.{counting}
-use Rattle.std.specs.shelf.Lists.{All, joined}
+use Rattle.std.specs.shelf.Lists.{All}
 use Rattle.std.proofs.shelf.Lists.{length-append, getD-append-left, getD-append-right}
-use Rattle.std.proofs.shelf.Tests.{cases-lt}
 use Rattle.std.proofs.shelf.Ways.{tells}
 use Rattle.std.proofs.shelf.Elements.{all-append}
 use Rattle.std.proofs.shelf.Counted.{length-map-counting, getD-map-counting}
 use Rattle.stations.specs.declared.station.Station.{Station}
 use Rattle.stations.specs.Counting.{bit, count}
 use Rattle.books.specs.declared.Child.{Child}
-use Rattle.books.specs.Books.{Slot, dead, leaf, node, Book, slot, level, stationsOn, childrenOn, size, stations, named, names, Fits, Filled}
-use Rattle.rolls.specs.Boxes.{around}
-use Rattle.rolls.specs.Rolls.{part, span, pagesOf, child, children, pageAt, levelPages, pagesFrom}
-use Rattle.rolls.proofs.Parts.{joined-append, joined-map, joined-none, joined-parts, length-part, all-counted, all-counted-part}
-use Rattle.rolls.proofs.Spans.{spans-all, part-some, page-fits}
+use Rattle.books.specs.Books.{dead, level, stationsOn, childrenOn, stations, named, names}
+use Rattle.rolls.specs.Rolls.{pagesOf, child, children, pageAt, levelPages, pagesFrom}
+use Rattle.rolls.proofs.Parts.{joined-append, joined-map, joined-none, joined-parts, all-counted}
+use Rattle.rolls.proofs.Spans.{spans-all}
 
 -- 1 where p is from low and below high, and else 0
 abbrev pub within : ℕ → ℕ → ℕ → ℕ

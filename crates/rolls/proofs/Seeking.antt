@@ -1,13 +1,13 @@
 -- Looking for a page, from the top level down.
-use mathlib.Core.Path.{_≡_, refl, sym, _∙_, ap, subst}
+use mathlib.Core.Path.{_≡_, sym, _∙_, ap, subst}
 use mathlib.Core.List.{List}
 use Prim.Native.Nat.{ℕ, zero, suc, _+_, _-_, _≤_, _<_}
 use native.Mathlib.Nat.{zero-add, sub-zero}
 use native.Mathlib.Omega.{arith}
 use lib.ListN.{length, getD}
 use Rattle.stations.specs.declared.station.Station.{Station}
-use Rattle.books.specs.Books.{dead, slot}
-use Rattle.rolls.specs.Rolls.{pagesOf, topLevel, pagesTo, pageCount, pageAt, pagesFrom, rollBook}
+use Rattle.books.specs.Books.{dead}
+use Rattle.rolls.specs.Rolls.{pagesOf, topLevel, pagesTo, pageCount, pagesFrom, rollBook}
 use Rattle.rolls.specs.Places.{Stands, Among, Sought}
 use Rattle.rolls.proofs.Pages.{first-at, later-at}
 use Rattle.rolls.proofs.Counts.{count-few}

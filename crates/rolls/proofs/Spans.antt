@@ -1,23 +1,21 @@
 -- How many pages a level has, and what each of them holds.
-use mathlib.Core.Path.{_≡_, refl, sym, _∙_, ap, subst}
+use mathlib.Core.Path.{_≡_, refl, sym, _∙_, subst}
 use mathlib.Core.Bool.{cond}
 use mathlib.Core.Logic.{⊎-elim}
-use mathlib.Core.List.{List, [], map}
-use Prim.Native.Nat.{ℕ, zero, suc, _+_, _*_, _-_, _/_, _%_, min, max, _≤_, _<_}
+use mathlib.Core.List.{List, []}
+use Prim.Native.Nat.{ℕ, zero, suc, _+_, _*_, _/_, _%_, min, max, _≤_, _<_}
 use native.Mathlib.Nat.{suc-mul, mul-assoc, add-mul, mul-le-mul-right}
 use native.Mathlib.Omega.{arith}
 use lib.Dec.{eqb}
 use lib.ListN.{length}
-use Rattle.std.specs.Iters.{counting}
 use Rattle.std.specs.shelf.Lists.{All}
 use Rattle.std.proofs.shelf.Lists.{nil-from-length}
 use Rattle.std.proofs.shelf.Tests.{cases-lt, cond-both, eqb-true, eqb-false}
 use Rattle.std.proofs.shelf.Elements.{all-weaker}
 use Rattle.stations.specs.declared.station.Station.{Station}
-use Rattle.stations.specs.declared.region.Region.{Region}
 use Rattle.books.specs.Books.{IsLive, Inside, Nested, Fits}
 use Rattle.rolls.specs.Boxes.{around}
-use Rattle.rolls.specs.Rolls.{part, span, pagesOf, topLevel, child, children, pageAt}
+use Rattle.rolls.specs.Rolls.{part, span, pagesOf, topLevel, child, pageAt}
 use Rattle.rolls.specs.Laws.{LeastOf}
 use Rattle.rolls.proofs.Around.{inside-nested, around-holds, around-least}
 use Rattle.rolls.proofs.Parts.{joined-parts, length-part, part-of-part, all-part, all-joined, all-counted-part, counted-part-all}

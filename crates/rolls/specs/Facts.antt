@@ -1,6 +1,5 @@
 -- That a book is lawful is a fact: there is one proof of it at most. So a struct can carry it behind `∥_∥₁`, and it comes out again.
-use mathlib.Core.Path.{_≡_}
-use mathlib.Core.HLevel.{⊥-prop, Unit-prop, Π-prop, ×-prop}
+use mathlib.Core.HLevel.{Unit-prop, Π-prop, ×-prop}
 use mathlib.Core.Logic.{∥∥₁-elim}
 use mathlib.Core.List.{List, [], _∷_}
 use native.Mathlib.Bridge.{le-prop}

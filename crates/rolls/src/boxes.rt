@@ -2,7 +2,7 @@
 ghost use mathlib.Core.Path.{_≡_};
 ghost use Prim.Native.Nat.{_≤_};
 ghost use lib.ListN.{length};
-ghost use Rattle.rolls.specs.Boxes.{point, widen as widened, around as leastAround};
+ghost use Rattle.rolls.specs.Boxes.{widen as widened, around as leastAround};
 use stations::Measures;
 use stations::Region;
 use stations::Station;

@@ -25,7 +25,7 @@ pub impl<'a> PageSource for Roll<'a> as RollSource {
     fn page_limit() -> usize
         ensures { λ r. ⌜ r ≡ 105 ⌝ }
     {
-        105
+        Self::MOST_PAGES
     }
 
     fn read(&mut self, page: u32) -> Result<Page, Fault> {

@@ -1,6 +1,5 @@
-use mathlib.Core.Path.{sym, ap, _∙_}
+use mathlib.Core.Path.{ap, _∙_}
 use Prim.Native.Nat.{_+_, _/_, _%_, min, max}
-use native.Mathlib.Omega.{arith}
 use Rattle.rolls.proofs.Spans.{span-some, pages-by-span}
 use Rattle.rolls.proofs.levels.pages_of.Needs as need
 

@@ -1,7 +1,6 @@
 use mathlib.Core.Path.{_≡_, subst}
 use Prim.Native.Nat.{suc, _-_, _<_}
 use native.Mathlib.Omega.{arith}
-use borrow.Author.Needs.{needs}
 use lib.ListN.{length}
 use Rattle.rolls.specs.Rolls.{pagesOf}
 use Rattle.rolls.proofs.Spans.{top-low, top-some}

@@ -1,6 +1,4 @@
 use mathlib.Core.Path.{sym, _∙_}
-use native.Mathlib.Omega.{arith}
-use borrow.Author.Needs.{needs}
 use Rattle.stations.specs.Rows.{rowFault}
 use Rattle.rolls.proofs.Accepting.{passed, sound, carried}
 use Rattle.rolls.proofs.roll.Roll.load.Needs as need

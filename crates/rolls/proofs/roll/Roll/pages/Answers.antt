@@ -1,8 +1,5 @@
 use mathlib.Core.Path.{sym, _∙_}
-use native.Mathlib.Omega.{arith}
-use borrow.Author.Needs.{needs}
-use lib.ListN.{length}
-use Rattle.rolls.proofs.Counts.{length-roll, count-few}
+use Rattle.rolls.proofs.Counts.{length-roll}
 use Rattle.rolls.proofs.roll.Roll.pages.Needs as need
 
 pub returns : need.returns
