@@ -21,7 +21,8 @@ use Rattle.books.specs.declared.Entry.{Entry}
 use Rattle.books.specs.declared.Entry.the-variants as entries
 use Rattle.books.specs.Books.{Slot, dead, leaf, node, Book, slot, level, size, isDead, Lawful}
 use Rattle.sources.specs.declared.page.Page.{Page}
-use Rattle.sources.specs.Sources.{entriesOn, Shows, Gives, Reads}
+use Rattle.books.specs.Books.{entriesOn}
+use Rattle.sources.specs.Sources.{Shows, Gives, Reads}
 use Rattle.stored.specs.Layout.{levelByte, countByte, stationAt, childAt, liveSlot, live}
 use Rattle.stored.specs.Notes.{Notes, noNotes, notesAfter}
 use Rattle.stored.specs.Loading.{pageCount, pageBytes, pagesIn, isLiveAt, slotAt, slotsFrom, spelledBook, marks}

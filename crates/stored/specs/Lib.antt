@@ -6,5 +6,4 @@ pub mod Loading
 pub mod Soundness
 pub mod Visits
 pub mod Showing
-pub mod Facts
 pub mod Meaning

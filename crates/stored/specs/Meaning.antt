@@ -4,7 +4,7 @@ use native.Mathlib.Omega.{arith}
 use Rattle.books.specs.Books.{Book}
 use Rattle.sources.specs.Sources.{SourceLaws}
 use Rattle.stored.specs.declared.stored.Stored.{Stored}
-use Rattle.stored.specs.Facts.{lawful-out}
+use Rattle.books.specs.Facts.{lawful-out}
 use Rattle.stored.specs.Loading.{spelledBook, pageCount}
 
 -- the book that its bytes spell

@@ -1,6 +1,5 @@
 -- That a book is lawful is a fact: there is one proof of it at most. So a struct can carry it behind `∥_∥₁`, and it comes out again.
-use mathlib.Core.Path.{_≡_}
-use mathlib.Core.HLevel.{⊥-prop, Unit-prop, Π-prop, ×-prop}
+use mathlib.Core.HLevel.{Unit-prop, Π-prop, ×-prop}
 use mathlib.Core.Logic.{∥∥₁-elim}
 use mathlib.Core.List.{List, [], _∷_}
 use native.Mathlib.Bridge.{le-prop}
@@ -9,8 +8,8 @@ use Prim.Native.Nat.{ℕ}
 use Rattle.std.specs.shelf.Lists.{All}
 use Rattle.stations.specs.declared.measures.Measures.{Measures}
 use Rattle.stations.specs.declared.region.Region.{Region}
-use Rattle.stations.specs.Beating.{_≼_}
+use Rattle.stations.specs.Beating.{Ordinary, _≼_}
 use Rattle.books.specs.Books.{Slot, dead, leaf, node, Book, slot, Inside, Nested, Fits, Filled, Lawful}
 
 all-prop : {A : Type 0} (P : A → Type 0) → ((a : A) → IsProp (P a)) → (xs : List A) → IsProp (All P xs)
 all-prop P h [] = Unit-prop
@@ -18,6 +17,9 @@ all-prop P h (x ∷ xs) = ×-prop (h x) (all-prop P h xs)
 
 at-most-prop : (p q : Measures) → IsProp (p ≼ q)
 at-most-prop p q h k = λ i. record { in1 = le-prop (h .in1) (k .in1) i; in2 = le-prop (h .in2) (k .in2) i; in3 = le-prop (h .in3) (k .in3) i; in4 = le-prop (h .in4) (k .in4) i }
+
+ordinary-prop : (p : Measures) → IsProp (Ordinary p)
+ordinary-prop p h k = λ i. record { in1 = le-prop (h .in1) (k .in1) i; in2 = le-prop (h .in2) (k .in2) i; in3 = le-prop (h .in3) (k .in3) i; in4 = le-prop (h .in4) (k .in4) i }
 
 inside-prop : (p : Measures) (box : Region) → IsProp (Inside p box)
 inside-prop p box h k = λ i. record { above = at-most-prop (box .low) p (h .above) (k .above) i; below = at-most-prop p (box .high) (h .below) (k .below) i }
@@ -45,8 +47,8 @@ lawful-prop b h k = λ i. record {
   reached = λ p live other. le-prop (h .reached p live other) (k .reached p live other) i;
   named-once = λ p. le-prop (h .named-once p) (k .named-once p) i;
   ordered = all-prop _ (λ c. at-most-prop (c .bounds .low) (c .bounds .high)) _ (h .ordered) (k .ordered) i;
-  boxes = all-prop _ (λ c. at-most-prop (c .bounds .high) _) _ (h .boxes) (k .boxes) i;
-  measures = all-prop _ (λ s. at-most-prop (s .at) _) _ (h .measures) (k .measures) i;
+  boxes = all-prop _ (λ c. ordinary-prop (c .bounds .high)) _ (h .boxes) (k .boxes) i;
+  measures = all-prop _ (λ s. ordinary-prop (s .at)) _ (h .measures) (k .measures) i;
   numbers = all-prop _ (λ s. le-prop) _ (h .numbers) (k .numbers) i;
   numbered-once = λ n. le-prop (h .numbered-once n) (k .numbered-once n) i;
 }
