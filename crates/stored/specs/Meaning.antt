@@ -11,6 +11,7 @@ use Rattle.stored.specs.Loading.{spelledBook, pageCount}
 abbrev pub bookOf : Stored → Book
 bookOf s = spelledBook (s .bytes .now)
 
+-- how many pages it has
 abbrev pub pagesOf : Stored → ℕ
 pagesOf s = pageCount (s .bytes .now)
 
