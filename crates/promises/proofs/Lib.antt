@@ -18,3 +18,4 @@ pub mod Places
 pub mod Turns
 pub mod PageTurns
 pub mod Turning
+pub mod Answering

@@ -2,6 +2,7 @@ pub mod Bounds
 pub mod Queries
 pub mod Opening
 pub mod Bands
+pub mod Answering
 pub mod Settling
 pub mod Waiting
 pub mod Searching

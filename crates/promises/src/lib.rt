@@ -1,6 +1,7 @@
 // What a search promises, as theorems over the model of a book. Each stands on the contract of a call that does nothing
 // else.
 ghost use Rattle.promises.specs.Bands.{BandsKeepLaws, BandsAnswer};
+ghost use Rattle.promises.specs.Answering.{AnswersAreBands};
 ghost use Rattle.promises.specs.Cases.{WorkedCases};
 ghost use Rattle.promises.specs.Checking.{Checked};
 ghost use Rattle.promises.specs.Filling.{Fillable};
@@ -78,6 +79,12 @@ pub fn bands_answer() -> u8
 }
 
 // What the promises rest on.
+
+pub fn answers_are_bands_in_order() -> u8
+    ensures { λ _. ⌜ AnswersAreBands ⌝ }
+{
+    0
+}
 
 pub fn answer_counts_like_field() -> u8
     ensures { λ _. ⌜ Counting ⌝ }
