@@ -52,6 +52,7 @@ ranked ns e long =
     | inr b ↦ record { ranker = Largest (record { weights = w }); letter = sym (eqb-true (getD ns 0 0) largestLetter b); weights = refl } ]
 
 accepted : (room : ℕ) (text : List ℕ) → logFault room text ≡ None → Rendered room text
+unfolding logFault rendering
 accepted room text e =
     let a = neither (refuseIf (ltb mostBytes (length text)) (placeless TextTooLong)) _ e in
     let b = neither (linesFault (linesOf text)) (afterLines room text) (a .1) in
@@ -87,6 +88,7 @@ module _ (r : Ranker) (q : Question) (row : List Station) (v : Valid r q row) wh
   head-line = line-of Letter (Measure ∷ Measure ∷ Measure ∷ Measure ∷ Measure ∷ Measure ∷ Measure ∷ Measure ∷ Measure ∷ Weight ∷ Weight ∷ Weight ∷ Weight ∷ []) (questionNumbers r q) refl (v .numbers)
 
   lines-are : linesOf (rendering r q row) ≡ bytes ∷ linesOf (joined stationText row)
+  unfolding rendering
   lines-are = lines-of questionLine (questionNumbers r q) (joined stationText row) head-line
 
   numbers-back : numbersOf questionLine (firstOf (linesOf (rendering r q row))) ≡ questionNumbers r q

@@ -35,8 +35,16 @@ afterLines room text =
 
 -- a text of accepted length
 pub log-short : (room : ℕ) (text : List ℕ) → length text ≤ mostBytes → logFault room text ≡ orElse (linesFault (linesOf text)) (afterLines room text)
+unfolding logFault
 log-short room text short =
     let t : ltb mostBytes (length text) ≡ false = le-ltb _ _ short in
+    ap (λ x. orElse (refuseIf x (placeless TextTooLong)) (orElse (linesFault (linesOf text)) (afterLines room text))) t
+
+-- a longer one
+pub log-long : (room : ℕ) (text : List ℕ) → mostBytes < length text → logFault room text ≡ Some (placeless TextTooLong)
+unfolding logFault
+log-long room text long =
+    let t : ltb mostBytes (length text) ≡ true = lt-ltb _ _ long in
     ap (λ x. orElse (refuseIf x (placeless TextTooLong)) (orElse (linesFault (linesOf text)) (afterLines room text))) t
 
 -- the lines are refused
@@ -105,6 +113,7 @@ module _ (text : List ℕ) (r : Ranker) (q : Question) (next : ℕ) (local : Lis
       ∙ ap₂ (λ a n. orElse a (orElse (questionFault q) (refuseIf (ltb room n) (placeless ShortBuffer)))) (sym row-fault) row-long
 
   pub shown-is : text ≡ rendering r q (take count local)
+  unfolding rendering
   shown-is = lined text lines-none .shown ∙ ap₂ (λ ns ss. lineText questionLine ns ++ joined stationText ss) (sym (head .numbers)) row-is
 
   pub valid-is : rowFault (take count local) ≡ None → questionFault q ≡ None → Valid r q (take count local)

@@ -95,7 +95,7 @@ abbrev pub rowIn : List ℕ → List Station
 rowIn text = stationsIn (laterOf (linesOf text))
 
 -- the text's length, its lines, a number that repeats, the question, and last the room for the stations
-abbrev pub logFault : ℕ → List ℕ → Option Fault
+unfoldable pub logFault : ℕ → List ℕ → Option Fault
 logFault room text =
     orElse (refuseIf (ltb mostBytes (length text)) (placeless TextTooLong))
     (orElse (linesFault (linesOf text))

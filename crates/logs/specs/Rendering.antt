@@ -20,14 +20,17 @@ use Rattle.logs.specs.Fields.{questionLine, stationLine, sumLetter, largestLet
 use Rattle.logs.specs.Checks.{mostBytes, logFault}
 use Rattle.logs.specs.declared.field.FieldKind.{FieldKind}
 
+-- the letter that names the ranking
 abbrev pub letterOf : Ranker → ℕ
 letterOf (Sum s) = sumLetter
 letterOf (Largest s) = largestLetter
 
+-- the ranking's weights
 abbrev pub weightsOf : Ranker → Weights
 weightsOf (Sum s) = s .weights
 weightsOf (Largest s) = s .weights
 
+-- the weights, in order
 abbrev pub weightNumbers : Weights → List ℕ
 weightNumbers w = w .w1 ∷ w .w2 ∷ w .w3 ∷ w .w4 ∷ []
 
@@ -35,6 +38,7 @@ weightNumbers w = w .w1 ∷ w .w2 ∷ w .w3 ∷ w .w4 ∷ []
 abbrev pub weightsAt : ℕ → List ℕ → List ℕ
 weightsAt i ns = getD ns i 0 ∷ getD ns (i + 1) 0 ∷ getD ns (i + 2) 0 ∷ getD ns (i + 3) 0 ∷ []
 
+-- the measures, in order
 abbrev pub measureNumbers : Measures → List ℕ
 measureNumbers p = p .m1 ∷ p .m2 ∷ p .m3 ∷ p .m4 ∷ []
 
@@ -50,7 +54,8 @@ stationNumbers s = s .number ∷ measureNumbers (s .at)
 abbrev pub lineText : List FieldKind → List ℕ → List ℕ
 lineText kinds ns = join comma (paired writing kinds ns) ++ lineEnd ∷ []
 
-abbrev pub rendering : Ranker → Question → List Station → List ℕ
+-- the question's line, and then a line for each station
+unfoldable pub rendering : Ranker → Question → List Station → List ℕ
 rendering r q row = lineText questionLine (questionNumbers r q) ++ joined (λ s. lineText stationLine (stationNumbers s)) row
 
 -- a question and a row that a log can hold

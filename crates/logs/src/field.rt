@@ -4,10 +4,11 @@ ghost use mathlib.Core.Bool.{cond};
 ghost use Rattle.std.specs.declared.option.Option.the-variants.{Some, None};
 ghost use Rattle.logs.specs.Numerals.{spelled, value};
 ghost use Rattle.logs.specs.Fields.{spells, reading, admits, isLetter};
+use rankings::MOST_WEIGHT;
 
 // k and the bounds of a region are read as measures are.
 #[derive(Clone, Copy)]
-pub enum FieldKind {
+pub(crate) enum FieldKind {
     Letter,
     Number,
     Measure,
@@ -15,7 +16,7 @@ pub enum FieldKind {
 }
 
 // The ranking's letter, k, the region's lows and highs, the weights.
-pub const QUESTION_LINE: [FieldKind; 14] = [
+pub(crate) const QUESTION_LINE: [FieldKind; 14] = [
     FieldKind::Letter,
     FieldKind::Measure,
     FieldKind::Measure,
@@ -33,7 +34,7 @@ pub const QUESTION_LINE: [FieldKind; 14] = [
 ];
 
 // A station's number and its measures.
-pub const STATION_LINE: [FieldKind; 5] = [
+pub(crate) const STATION_LINE: [FieldKind; 5] = [
     FieldKind::Number,
     FieldKind::Measure,
     FieldKind::Measure,
@@ -45,7 +46,7 @@ pub const STATION_LINE: [FieldKind; 5] = [
 const MOST_DIGITS: usize = 10;
 
 // The letters of the two rankings.
-pub const SUM_LETTER: u8 = b'S';
+pub(crate) const SUM_LETTER: u8 = b'S';
 const LARGEST_LETTER: u8 = b'W';
 
 // A number of 1 to 10 digits, with no 0 in front of another digit.
@@ -80,7 +81,7 @@ fn read_letter(bytes: &[u8]) -> Option<u64>
 
 impl FieldKind {
     // What the field says, or None where it is not written as its kind asks.
-    pub fn read(self, bytes: &[u8]) -> Option<u64>
+    pub(crate) fn read(self, bytes: &[u8]) -> Option<u64>
         ensures { λ r. ⌜ r ≡ cond (spells self (now (bytes .entry))) (Some (reading self (now (bytes .entry)))) None ⌝ }
     {
         match self {
@@ -90,14 +91,14 @@ impl FieldKind {
     }
 
     // The number is in range for the kind.
-    pub fn admits(self, n: u64) -> bool
+    pub(crate) fn admits(self, n: u64) -> bool
         ensures { λ r. ⌜ r ≡ admits self n ⌝ }
     {
         match self {
             FieldKind::Letter => n == SUM_LETTER as u64 || n == LARGEST_LETTER as u64,
-            FieldKind::Number => 0 < n && n <= 4_294_967_295,
-            FieldKind::Measure => n <= 65_535,
-            FieldKind::Weight => n <= 1_000,
+            FieldKind::Number => 0 < n && n <= u32::MAX as u64,
+            FieldKind::Measure => n <= u16::MAX as u64,
+            FieldKind::Weight => n <= MOST_WEIGHT as u64,
         }
     }
 }

@@ -4,7 +4,6 @@ mod law;
 mod line;
 mod log;
 mod token;
-pub use field::FieldKind;
 pub use law::accepts_exactly_renderings;
 pub use log::Log;
 pub use log::MOST_BYTES;

@@ -22,14 +22,14 @@ use stations::Fault;
 
 // A line without its end, how many fields it has, and where its end stands in the text.
 #[derive(Clone, Copy)]
-pub struct Line<'a> {
-    pub bytes: &'a [u8],
-    pub fields: usize,
-    pub end: usize,
+pub(crate) struct Line<'a> {
+    pub(crate) bytes: &'a [u8],
+    pub(crate) fields: usize,
+    pub(crate) end: usize,
 }
 
 // The line that begins at a place, or None where no line end follows.
-pub fn line_at<'a>(text: &'a [u8], start: usize) -> Option<Line<'a>>
+pub(crate) fn line_at<'a>(text: &'a [u8], start: usize) -> Option<Line<'a>>
     requires { ⌜ start ≤ length (now text) ⌝ }
     ensures { λ r. ⌜ BySome r (Unended (now (text .entry)) start) (λ line. Found (now (text .entry)) start (line .bytes .now) (line .fields) (line .end)) ⌝ }
 {
@@ -100,7 +100,7 @@ fn check_ranges(number: u32, kinds: &[FieldKind], numbers: &[u64]) -> Result<(),
 }
 
 // Reads a line: how many fields, then how each is written, then what each says.
-pub fn read_line(number: u32, line: &Line, kinds: &[FieldKind], numbers: &mut [u64]) -> Result<(), Fault>
+pub(crate) fn read_line(number: u32, line: &Line, kinds: &[FieldKind], numbers: &mut [u64]) -> Result<(), Fault>
     requires short { ⌜ length (now line .bytes .now) ≤ mostBytes ⌝ }
     requires free { ⌜ Free lineEnd (now line .bytes .now) ⌝ }
     requires count { ⌜ now line .fields ≡ length (fieldsOf (now line .bytes .now)) ⌝ }

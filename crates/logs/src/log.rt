@@ -1,9 +1,9 @@
 // A whole log: the question's line, and then the stations'.
 ghost use mathlib.Core.Path.{_≡_};
 ghost use mathlib.Core.Bool.{true};
-ghost use mathlib.Core.List.{[], _∷_};
-ghost use Prim.Native.Nat.{ℕ, _+_, _<_, _≤_};
-ghost use lib.ListN.{length, take, drop, getD};
+ghost use Prim.Native.Nat.{suc, _+_, _≤_};
+ghost use lib.Dec.{ltb};
+ghost use lib.ListN.{length, drop, getD};
 ghost use Rattle.std.specs.Results.{Cases};
 ghost use Rattle.std.specs.declared.option.Option.the-variants.{Some, None};
 ghost use Rattle.stations.specs.Rows.{mostStations};
@@ -11,7 +11,7 @@ ghost use Rattle.stations.specs.Beating.{Ordinary};
 ghost use Rattle.logs.specs.Pieces.{lineEnd, linesOf, fieldsOf};
 ghost use Rattle.logs.specs.Lines.{Free};
 ghost use Rattle.logs.specs.Fields.{questionLine, stationLine, admits, pass};
-ghost use Rattle.logs.specs.Checks.{mostBytes, lineFault, numbersOf, linesFault, stationsFault, stationsIn, measuresAt, questionOf, stationOf};
+ghost use Rattle.logs.specs.Checks.{mostBytes, lineFault, numbersOf, linesFault, stationsFault, measuresAt, questionOf, stationOf};
 ghost use Rattle.logs.specs.Rendering.{letterOf, weightsOf, weightNumbers, weightsAt};
 ghost use Rattle.logs.specs.Reading.{Headed, Filled, Accepted, Refused};
 use crate::field::QUESTION_LINE;
@@ -129,6 +129,13 @@ fn read_station(number: u32, line: &Line) -> Result<Station, Fault>
     Ok(station_of(&numbers))
 }
 
+// The line would hold one station more than a row may have. The question's line is not counted.
+fn is_crowded(line: u32) -> bool
+    ensures { λ r. ⌜ r ≡ ltb (suc mostStations) line ⌝ }
+{
+    line as usize > MOST_STATIONS + 1
+}
+
 // Reads the lines from a place on, and puts their stations into the row.
 fn read_stations(text: &[u8], start: usize, row: &mut [Station]) -> Result<usize, Fault>
     requires short { ⌜ length (now text) ≤ mostBytes ⌝ }
@@ -140,7 +147,7 @@ fn read_stations(text: &[u8], start: usize, row: &mut [Station]) -> Result<usize
     let mut count = 0;
     while at < text.len() {
         let number = count as u32 + 2;
-        if count == MOST_STATIONS {
+        if is_crowded(number) {
             return Err(Fault { code: Code::TooManyStations, first: number, second: 0 });
         }
         let Some(line) = line_at(text, at) else {

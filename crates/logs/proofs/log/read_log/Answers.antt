@@ -17,12 +17,15 @@ use Rattle.stations.specs.Rows.{rowFault}
 use Rattle.stations.specs.Questions.{questionFault}
 use Rattle.logs.specs.Rendering.{rendering, Valid}
 use Rattle.logs.proofs.Verdicts.{verdict-ok, verdict-err, at-some, after-none}
-use Rattle.logs.proofs.Readings.{log-lines, log-after, row-long, shown-is, valid-is}
+use Rattle.logs.proofs.Readings.{log-long, log-lines, log-after, row-long, shown-is, valid-is}
 use Rattle.logs.proofs.log.read_log.Needs as need
 
 -- the part of the row that is checked, as its first stations
 row-part : (row : List Station) (n : ℕ) → rowFault (take n row) ≡ rowFault (take (n - 0) row)
 row-part row n = ap (λ m. rowFault (take m row)) (sym (sub-zero n))
+
+pub returns-then-text-gt-MOST-BYTES : need.returns-then-text-gt-MOST-BYTES
+returns-then-text-gt-MOST-BYTES c = record { refused = log-long (length (c .args .row .now)) (c .args .text .now) (c .if-text-gt-MOST-BYTES .taken); kept = refl }
 
 pub returns-in-Break-heading : need.returns-in-Break-heading
 returns-in-Break-heading c =

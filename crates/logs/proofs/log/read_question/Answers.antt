@@ -22,7 +22,7 @@ question-of-question-requires c κs =
     let bytes = c .in-Some .line .bytes .now in
     let none : lineFault 1 questionLine bytes ≡ None = verdict-ok (lineFault 1 questionLine bytes) (c .in-Continue-read-line .ensures tt .value) in
     let fine = fine-from 1 questionLine bytes none in
-    let is : c .read-line .last .numbers ≡ numbersOf questionLine bytes = c .in-Continue-read-line .ensures tt .after refl in
+    let is : c .read-line .last .numbers ≡ numbersOf questionLine bytes = c .in-Continue-read-line .ensures tt .after (refl {a = true}) in
     record {
       long = ap length is ∙ length-paired reading questionLine (fieldsOf bytes) (fine .count);
       admitted = ap (pass admits questionLine) is ∙ fine .admitted }
@@ -32,7 +32,7 @@ returns c =
     let bytes = c .in-Some .line .bytes .now in
     let none : lineFault 1 questionLine bytes ≡ None = verdict-ok (lineFault 1 questionLine bytes) (c .in-Continue-read-line .ensures tt .value) in
     let fine = fine-from 1 questionLine bytes none in
-    let is : c .read-line .last .numbers ≡ numbersOf questionLine bytes = c .in-Continue-read-line .ensures tt .after refl in
+    let is : c .read-line .last .numbers ≡ numbersOf questionLine bytes = c .in-Continue-read-line .ensures tt .after (refl {a = true}) in
     let long = ap length is ∙ length-paired reading questionLine (fieldsOf bytes) (fine .count) in
     headed (c .args .text .now) bytes (c .in-Some .line .fields) (c .in-Some .line .end) (c .read-line .last .numbers) (c .ranking-of-ranking .result) (c .question-of-question .result) (c .in-Some .ensures tt) none is
       (question-numbers (c .ranking-of-ranking .result) (c .question-of-question .result) (c .read-line .last .numbers) long (c .ranking-of-ranking .ensures .letter) (c .ranking-of-ranking .ensures .weights) (c .question-of-question .ensures))

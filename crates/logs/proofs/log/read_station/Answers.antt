@@ -1,4 +1,5 @@
 use mathlib.Core.Path.{_≡_, refl, sym, _∙_, ap, subst}
+use mathlib.Core.Bool.{true}
 use lib.ListN.{length}
 use Rattle.std.proofs.shelf.Results.{err-from-errBy}
 use Rattle.std.specs.declared.option.Option.the-variants.{None}
@@ -17,7 +18,7 @@ pub station-of-requires : need.station-of-requires
 station-of-requires c κs =
     let bytes = c .args .line .now .bytes .now in
     let fine = fine-from (c .args .number) stationLine bytes (verdict-ok (lineFault (c .args .number) stationLine bytes) (c .in-Continue-read-line .ensures tt .value)) in
-    let is : c .read-line .last .numbers ≡ numbersOf stationLine bytes = c .in-Continue-read-line .ensures tt .after refl in
+    let is : c .read-line .last .numbers ≡ numbersOf stationLine bytes = c .in-Continue-read-line .ensures tt .after (refl {a = true}) in
     record {
       long = ap length is ∙ length-paired reading stationLine (fieldsOf bytes) (fine .count);
       admitted = ap (pass admits stationLine) is ∙ fine .admitted }
@@ -26,4 +27,4 @@ pub returns : need.returns
 returns c =
     let bytes = c .args .line .now .bytes .now in
     let none = verdict-ok (lineFault (c .args .number) stationLine bytes) (c .in-Continue-read-line .ensures tt .value) in
-    (none, c .station-of .ensures ∙ ap stationOf (c .in-Continue-read-line .ensures tt .after refl))
+    (none, c .station-of .ensures ∙ ap stationOf (c .in-Continue-read-line .ensures tt .after (refl {a = true})))
