@@ -15,3 +15,6 @@ pub mod Cases
 pub mod Histories
 pub mod Checking
 pub mod Places
+pub mod Turns
+pub mod PageTurns
+pub mod Turning

@@ -1,16 +1,15 @@
 -- Where entries stand, that their keys differ, and counts over a filter that changes at one place.
 use mathlib.Core.Path.{_≡_, refl, sym, _∙_, ap, subst}
-use mathlib.Core.Bool.{Bool, true, false, cond, not, _&&_, _||_}
+use mathlib.Core.Bool.{Bool, true, false, cond, _&&_}
 use mathlib.Core.Logic.{_⊎_, inl, inr, ⊎-elim}
 use mathlib.Core.List.{List, [], _∷_, _++_, map}
 use Prim.Native.Nat.{ℕ, zero, suc, _+_, _≤_, _<_}
 use native.Mathlib.Omega.{arith}
-use lib.Dec.{eqb, ltb}
+use lib.Dec.{eqb}
 use Rattle.std.specs.shelf.Lists.{All, joined, kept-by}
 use Rattle.std.proofs.shelf.Tests.{both-ways, and-parts, and-from, eqb-true, eq-eqb, ne-eqb, lt-ltb, ltb-true}
 use Rattle.stations.specs.declared.measures.Measures.{Measures}
 use Rattle.stations.specs.declared.station.Station as stated
-use Rattle.stations.specs.declared.key.Key.{Key}
 use Rattle.stations.specs.Keys.{kindNumber}
 use Rattle.stations.specs.Counting.{bit, count}
 use Rattle.books.specs.declared.Child.{Child}
@@ -18,7 +17,7 @@ use Rattle.books.specs.declared.Entry.{Entry}
 use Rattle.books.specs.declared.Entry.the-variants.{Page, Station}
 use Rattle.books.specs.Lists.{Pairwise, _∈_, here, there}
 use Rattle.books.specs.Books.{Slot, dead, leaf, node, Book, slot, stationsOn, childrenOn, entriesOn}
-use Rattle.promises.specs.Queries.{Query, stationKey, pageKey}
+use Rattle.promises.specs.Queries.{Query}
 use Rattle.promises.specs.Waiting.{keyOf, Place, places, some}
 use Rattle.promises.specs.Turning.{Same}
 use Rattle.promises.proofs.Lists.{all-at, all-from, in-map, of-map, pairwise-weaker, pairwise-mapped, pairwise-append, count-append, count-mem, count-some}
@@ -161,9 +160,9 @@ module _ (q : Query) where
       let x = pairwise-parts Numbers (stationsOn s) (joined stationsOn b) h in
       let y = pairwise-parts Pages (childrenOn s) (joined childrenOn b) k in
       pairwise-append Differ (map (at n) (entriesOn s)) (places (suc n) b) (on-slot n s (x .0) (y .0)) (differ (suc n) b (x .1) (y .1)) (λ v m w l.
-          let i = of-map (at n) (entriesOn s) m in
-          let o = of-places (suc n) b l in
-          across s b (o .0) (x .2) (y .2) (v .entry) (w .entry) (subst (λ e. e ∈ entriesOn s) (sym (ap (λ z. z .entry) (i .2))) (i .1)) (o .2))
+      let i = of-map (at n) (entriesOn s) m in
+      let o = of-places (suc n) b l in
+      across s b (o .0) (x .2) (y .2) (v .entry) (w .entry) (subst (λ e. e ∈ entriesOn s) (sym (ap (λ z. z .entry) (i .2))) (i .1)) (o .2))
 
 -- a test for each item
 abbrev point : ℕ → ℕ → ℕ → ℕ → Measures

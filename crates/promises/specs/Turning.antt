@@ -2,7 +2,7 @@
 use mathlib.Core.Path.{_≡_}
 use mathlib.Core.Bool.{Bool, true, false}
 use mathlib.Core.List.{List, [], _∷_, _++_}
-use Prim.Native.Nat.{ℕ, suc}
+use Prim.Native.Nat.{suc}
 use lib.ListN.{length}
 use Rattle.std.specs.shelf.Lists.{All, kept-by}
 use Rattle.stations.specs.declared.station.Station as stated
@@ -14,8 +14,8 @@ use Rattle.books.specs.declared.Entry.the-variants.{Page, Station}
 use Rattle.books.specs.Lists.{_∈_}
 use Rattle.books.specs.Books.{Book, slot, entriesOn, Lawful}
 use Rattle.promises.specs.Bounds.{Bound, below, upTo, within}
-use Rattle.promises.specs.Queries.{Query, Laws, answer}
-use Rattle.promises.specs.Opening.{calledFor, opened, listed}
+use Rattle.promises.specs.Queries.{Query, Laws}
+use Rattle.promises.specs.Opening.{opened, listed}
 use Rattle.promises.specs.Waiting.{keyOf, passes, waiting}
 use Rattle.promises.specs.Searching.{topKey, row}
 
