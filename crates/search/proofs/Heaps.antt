@@ -16,9 +16,8 @@ use Rattle.stations.specs.declared.key.Kind as kinds
 use Rattle.stations.specs.declared.key.Kind.the-variants as variants
 use Rattle.stations.specs.contracts.key.Kind.{enum}
 use Rattle.stations.specs.Keys.{before, lex, kindNumber}
-use Rattle.stations.specs.Counting.{bit, count}
 use Rattle.heaps.specs.Heap.{earlier, Pushed, Popped}
-use Rattle.heaps.proofs.Laws.{tally-pushed, tally-popped, popped-first}
+use Rattle.heaps.proofs.Laws.{popped-first}
 use Rattle.search.specs.declared.waiting.Waiting.{Waiting}
 use Rattle.search.specs.contracts.waiting.WaitingOrd.the-impl.{ghosts}
 use Rattle.search.specs.Orders.{by-key}
@@ -55,13 +54,13 @@ told v w =
 module _ (old : List Waiting) (used : ℕ) (key : Waiting) (new : List Waiting) where
   pub put-from : (n : ℕ) → n ≡ used + 1 → Pushed (ghosts .orders) old used key new → Put (take used old) key (take n new)
   put-from n e p = subst (λ m. Put (take used old) key (take m new)) (sym e) record {
-    same = λ t. tally-pushed (λ x. bit (t x)) (count t) refl (λ x xs. refl) (ghosts .orders) old used key new p;
+    holds = p .holds;
     heap = p .heap by-key;
   }
 
   pub taken-from : Popped (ghosts .orders) old used key new → Taken (take used old) key (take (used - 1) new)
   taken-from p = record {
-    same = λ t. tally-popped (λ x. bit (t x)) (count t) refl (λ x xs. refl) (ghosts .orders) old used key new p;
+    holds = p .holds;
     heap = p .heap by-key;
     least = λ h. all-weaker (λ v. earlier by-key v key ≡ false) (λ v. before (v .key) (key .key) ≡ false) (λ v e. sym (told v key) ∙ e) (take (used - 1) new) (popped-first (ghosts .orders) old used key new by-key p h);
   }

@@ -1,2 +1,3 @@
 pub mod Heaps
 pub mod Tests
+pub mod Filling

@@ -2,4 +2,6 @@
 mod entries;
 mod listed;
 mod queue;
+mod run;
+mod steps;
 mod waiting;
