@@ -42,3 +42,36 @@ fn fill<R: Ranking>(waiting: &mut Queue, ranking: &R, question: Question, listed
     }
     true
 }
+
+impl<S: PageSource, R: Ranking> Run<S, R> {
+    // Opens a page. Nothing else reads the source.
+    pub fn open(&mut self, page: u32) -> Result<(), Fault>
+        ensures kept { λ _. ⌜ Kept book pages meter (now (self .entry)) (now (self .exit)) ⌝ }
+        ensures phase { λ _. ⌜ now (self .exit) .phase ≡ now (self .entry) .phase ⌝ }
+        ensures listed { λ _. ⌜ now (self .exit) .listed ≡ now (self .entry) .listed ⌝ }
+        ensures opens { λ r. ⌜ Opens (queryOf score (now (self .entry))) (book (now (self .entry) .source)) (pages (now (self .entry) .source)) page (listing (now (self .entry) .listed)) (held (now (self .entry) .waiting)) (held (now (self .exit) .waiting)) (now (self .entry) .opened) (now (self .exit) .opened) r ⌝ }
+        ensures few { λ _. ⌜ now (self .exit) .waiting .used ≤ now (self .entry) .waiting .used + 12 ⌝ }
+    {
+        if self.opened >= MOST_PAGES {
+            return Err(Fault {
+                code: Code::PageNumber,
+                first: page,
+                second: 0,
+            });
+        }
+        self.opened += 1;
+        match self.source.read(page) {
+            Err(fault) => Err(fault),
+            Ok(entries) => {
+                if fill(&mut self.waiting, &self.ranking, self.question, &self.listed, &entries) {
+                    return Ok(());
+                }
+                Err(Fault {
+                    code: Code::WaitingFull,
+                    first: page,
+                    second: 0,
+                })
+            }
+        }
+    }
+}
