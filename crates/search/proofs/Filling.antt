@@ -7,7 +7,7 @@ use native.Mathlib.Omega.{arith}
 use lib.ListN.{length, getD, take}
 use Rattle.std.specs.Slices.{Shuffled}
 use Rattle.std.specs.shelf.Lists.{All, kept-by}
-use Rattle.std.proofs.shelf.Lists.{length-take-le, length-map, take-more}
+use Rattle.std.proofs.shelf.Lists.{length-take-le, length-map, length-append, take-more}
 use Rattle.std.proofs.shelf.Sorted.{all-shuffled, length-shuffled}
 use Rattle.stations.specs.declared.station.Station.{Station}
 use Rattle.stations.specs.Counting.{bit, count}
@@ -16,7 +16,7 @@ use Rattle.heaps.proofs.Laws.{tally-shuffled}
 use Rattle.promises.specs.Queries.{Query}
 use Rattle.promises.specs.Waiting.{passes}
 use Rattle.promises.specs.Turning.{Same}
-use Rattle.promises.proofs.Lists.{count-append, count-all}
+use Rattle.promises.proofs.Lists.{count-append, count-all, length-kept}
 use Rattle.promises.proofs.Places.{count-kept, count-map}
 use Rattle.search.specs.declared.waiting.Waiting.{Waiting}
 use Rattle.search.specs.declared.waiting.Queue.{Queue}
@@ -65,19 +65,12 @@ module _ (q : Query) (ss : List Station) where
     heap = λ h. g .heap (f .heap h);
   }
 
-  -- as many more wait as pass
-  pub filled-length : (es : List Entry) (xs ys : List Waiting) → Filled q ss es xs ys → length ys ≡ length xs + count (passes q ss) es
-  filled-length es xs ys f =
-      let plain : (es : List Entry) → count (λ e. passes q ss e && true) es ≡ count (passes q ss) es = λ es. all-true es in
-      omega (arith, same-length (entriesOf ys) (kept-by (passes q ss) es ++ entriesOf xs) (f .same), entries-length ys, entries-length xs, count-all (kept-by (passes q ss) es ++ entriesOf xs), count-filled (λ _. true) es (entriesOf xs), count-all (entriesOf xs), plain es)
-    where
-      and-true : (s : Bool) → (s && true) ≡ s
-      and-true true = refl
-      and-true false = refl
+  -- as many more as pass
+  pub filled-count : (es : List Entry) (xs : List Waiting) → length (kept-by (passes q ss) es ++ entriesOf xs) ≡ length xs + count (passes q ss) es
+  filled-count es xs = omega (arith, length-append (kept-by (passes q ss) es) (entriesOf xs), length-kept (passes q ss) es, entries-length xs)
 
-      all-true : (es : List Entry) → count (λ e. passes q ss e && true) es ≡ count (passes q ss) es
-      all-true [] = refl
-      all-true (e ∷ es) = omega (arith, ap bit (and-true (passes q ss e)), all-true es)
+  pub filled-length : (es : List Entry) (xs ys : List Waiting) → Filled q ss es xs ys → length ys ≡ length xs + count (passes q ss) es
+  filled-length es xs ys f = sym (entries-length ys) ∙ same-length (entriesOf ys) (kept-by (passes q ss) es ++ entriesOf xs) (f .same) ∙ filled-count es xs
 
   -- an entry that passes is put where there is room
   pub fills-put : (e : Entry) (xs : List Waiting) (w : Waiting) (r : Bool) (ys : List Waiting) → passes q ss e ≡ true → w ≡ waitingOf q e → Puts 1024 xs w r ys → Fills 1024 q ss (e ∷ []) xs r ys × (length ys ≤ length xs + 1)
