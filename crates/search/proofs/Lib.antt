@@ -3,3 +3,4 @@ pub mod Tests
 pub mod Filling
 pub mod Openings
 pub mod Turns
+pub mod Runs
