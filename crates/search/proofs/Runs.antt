@@ -127,3 +127,13 @@ module _ {S R : Type 0} {limit : ℕ} (book : S → Book) (pages meter : S → �
 
     pub top-refused : (f : Fault) → Opens q b (pages (r .source)) 0 (listing (r .listed)) (held (r .waiting)) (held zs) (r .opened) m (Err f) → Gave q b (listing (r .listed)) (Err f) (held zs) (listing (r .listed)) m
     top-refused f h = turns.top-refused q laws b lawful (held (r .waiting)) (listing (r .listed)) (fresh .1, fresh .2) (held zs) m some f (at-first (Err f) h)
+
+  -- the top is opened, and then turn follows turn
+  pub begun-then : (r₁ r₂ : Run S R) (reply : Reply) → (r .opened ≡ 0) × (length (held (r .waiting)) ≡ 0) × (length (listing (r .listed)) ≡ 0) → Kept book pages meter r r₁ → r₁ .listed ≡ r .listed →
+      Opens q b (pages (r .source)) 0 (listing (r .listed)) (held (r .waiting)) (held (r₁ .waiting)) (r .opened) (r₁ .opened) (Ok tt) →
+      ((u : Bound) → At (queryOf score r₁) (book (r₁ .source)) u (held (r₁ .waiting)) (listing (r₁ .listed)) (r₁ .opened) → Gave (queryOf score r₁) (book (r₁ .source)) (listing (r₁ .listed)) reply (held (r₂ .waiting)) (listing (r₂ .listed)) (r₂ .opened)) →
+      Gave q b (listing (r .listed)) reply (held (r₂ .waiting)) (listing (r₂ .listed)) (r₂ .opened)
+  begun-then r₁ r₂ reply fresh kept listed opens gives =
+      let start = subst (λ l. At q b (below topKey) (held (r₁ .waiting)) (listing l) (r₁ .opened)) (sym listed) (begun fresh (r₁ .waiting) (r₁ .opened) opens) in
+      let end = gave-moved (queryOf score r₁) q (book (r₁ .source)) b (held (r₁ .waiting)) (listing (r₁ .listed)) (r₁ .opened) reply (held (r₂ .waiting)) (listing (r₂ .listed)) (r₂ .opened) (same-query book pages meter score r r₁ kept) (kept .source .same) gives (below topKey) start in
+      subst (λ l. Gave q b (listing l) reply (held (r₂ .waiting)) (listing (r₂ .listed)) (r₂ .opened)) listed end
