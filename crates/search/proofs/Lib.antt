@@ -4,3 +4,4 @@ pub mod Filling
 pub mod Openings
 pub mod Turns
 pub mod Runs
+pub mod Producing

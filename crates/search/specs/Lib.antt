@@ -1,3 +1,4 @@
 pub mod Orders
 pub mod Held
 pub mod States
+pub mod Relation
