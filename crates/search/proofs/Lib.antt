@@ -5,3 +5,4 @@ pub mod Openings
 pub mod Turns
 pub mod Runs
 pub mod Producing
+pub mod Playing

@@ -2,3 +2,4 @@ pub mod Orders
 pub mod Held
 pub mod States
 pub mod Relation
+pub mod Playing
