@@ -1,0 +1,5 @@
+pub mod Orders
+pub mod Held
+pub mod States
+pub mod Relation
+pub mod Playing
