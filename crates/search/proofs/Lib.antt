@@ -6,3 +6,4 @@ pub mod Turns
 pub mod Runs
 pub mod Producing
 pub mod Playing
+pub mod Driving

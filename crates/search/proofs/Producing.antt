@@ -33,7 +33,7 @@ use Rattle.search.specs.States.{limits, Reply, Goes, Gave, Kept, queryOf}
 use Rattle.search.specs.Relation.{phaseOf, meterFrom, afterNext, pagesOpened, Asked, Stands, Produces}
 use Rattle.search.proofs.Filling.{held-length, listing-length}
 
-handed-more : (ss : List Station) (h : List Event) (e : Event) → handedIn ss (h ++ e ∷ []) ≡ handing (handedIn ss h) e
+pub handed-more : (ss : List Station) (h : List Event) (e : Event) → handedIn ss (h ++ e ∷ []) ≡ handing (handedIn ss h) e
 handed-more ss [] e = refl
 handed-more ss (x ∷ h) e = handed-more (handing ss x) h e
 

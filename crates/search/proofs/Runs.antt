@@ -30,7 +30,7 @@ use Rattle.search.specs.declared.waiting.Waiting.{Waiting}
 use Rattle.search.specs.declared.waiting.Queue.{Queue}
 use Rattle.search.specs.declared.run.Run.{Run}
 use Rattle.search.specs.Held.{held, listing, Taken, Lists}
-use Rattle.search.specs.States.{Reply, Opens, At, Goes, Gave, Turned, Kept, queryOf}
+use Rattle.search.specs.States.{Reply, Opens, At, Goes, Gave, Turned, Unchanged, Kept, queryOf}
 use Rattle.search.proofs.Filling.{held-length}
 use Rattle.search.proofs.Turns as turns
 
@@ -51,9 +51,12 @@ module _ {S R : Type 0} (book : S → Book) (pages meter : S → ℕ) (score : R
   pub same-query : (r r′ : Run S R) → Kept book pages meter r r′ → queryOf score r′ ≡ queryOf score r
   same-query r r′ k = ap (λ x. bands (score x) (r′ .question)) (k .source .ranking) ∙ ap (bands (score (r .ranking))) (k .question)
 
+  pub unchanged-then : (r r′ r″ : Run S R) → Unchanged book pages r r′ → Unchanged book pages r′ r″ → Unchanged book pages r r″
+  unchanged-then r r′ r″ k l = record { same = l .same ∙ k .same; counted = l .counted ∙ k .counted; ranking = l .ranking ∙ k .ranking }
+
   pub kept-then : (r r′ r″ : Run S R) → Kept book pages meter r r′ → Kept book pages meter r′ r″ → Kept book pages meter r r″
   kept-then r r′ r″ k l = record {
-    source = record { same = l .source .same ∙ k .source .same; counted = l .source .counted ∙ k .source .counted; ranking = l .source .ranking ∙ k .source .ranking };
+    source = unchanged-then r r′ r″ (k .source) (l .source);
     question = l .question ∙ k .question;
     metered = λ m h. l .metered m (k .metered m h);
   }

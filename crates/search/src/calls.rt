@@ -11,6 +11,7 @@ ghost use Rattle.books.specs.Books.{Book};
 ghost use Rattle.promises.specs.Histories.{Event, started, nexted, stopped, Standing, nothing, asked, afterStart, handedIn, phaseBy};
 ghost use Rattle.search.specs.Held.{listing};
 ghost use Rattle.search.specs.States.{Unchanged};
+ghost use Rattle.search.specs.Playing.{Driven};
 ghost use Rattle.search.specs.Relation.{phaseOf, meterFrom, afterNext, pagesOpened, Produces};
 use crate::listed::Listed;
 use crate::listed::MOST_LISTED;
@@ -164,5 +165,22 @@ impl<S: PageSource, R: Ranking> Run<S, R> {
         ensures produced { λ r. ⌜ ((rank : Measures → ℕ) (b : Book) (h : List Event) (stands : Standing) (m : ℕ) → Produces book meter score rank b h stands m (now (self .entry)) → (r .0 ≡ length (pagesOpened rank b stands)) × (r .1 ≡ length (handedIn [] h))) ⌝ }
     {
         (self.opened, self.listed.len)
+    }
+
+    // Calls `next` until the search is done or refuses.
+    pub fn drive(&mut self) -> Result<(), Fault>
+        ensures unchanged { λ _. ⌜ Unchanged book pages (now (self .entry)) (now (self .exit)) ⌝ }
+        ensures driven { λ r. ⌜ ((rank : Measures → ℕ) (b : Book) (h : List Event) (stood : Standing) (m : ℕ) → Produces book meter score rank b h stood m (now (self .entry)) → Driven book meter score rank b h m r (now (self .exit))) ⌝ }
+    {
+        for _ in 0..=MOST_LISTED {
+            match self.next() {
+                Ok(found) => match found {
+                    Some(_) => {}
+                    None => return Ok(()),
+                },
+                Err(fault) => return Err(fault),
+            }
+        }
+        Ok(())
     }
 }

@@ -19,12 +19,12 @@ pub enum Phase {
 // A search over a source of pages, under a ranking. It owns both.
 #[derive(Drop)]
 pub struct Run<S, R> {
-    pub source: S,
-    pub ranking: R,
-    pub question: Question,
-    pub phase: Phase,
-    pub waiting: Queue,
-    pub listed: Listed,
-    pub opened: usize,
+    pub(crate) source: S,
+    pub(crate) ranking: R,
+    pub(crate) question: Question,
+    pub(crate) phase: Phase,
+    pub(crate) waiting: Queue,
+    pub(crate) listed: Listed,
+    pub(crate) opened: usize,
     ghost few: { opened ≤ 256 },
 }

@@ -48,7 +48,7 @@ fn fill<R: Ranking>(waiting: &mut Queue, ranking: &R, question: Question, listed
 
 impl<S: PageSource, R: Ranking> Run<S, R> {
     // Opens a page. Nothing else reads the source.
-    pub fn open(&mut self, page: u32) -> Result<(), Fault>
+    fn open(&mut self, page: u32) -> Result<(), Fault>
         ensures kept { λ _. ⌜ Kept book pages meter (now (self .entry)) (now (self .exit)) ⌝ }
         ensures phase { λ _. ⌜ now (self .exit) .phase ≡ now (self .entry) .phase ⌝ }
         ensures listed { λ _. ⌜ now (self .exit) .listed ≡ now (self .entry) .listed ⌝ }
@@ -79,7 +79,7 @@ impl<S: PageSource, R: Ranking> Run<S, R> {
     }
 
     // One turn: takes the least of what waits. None where the search goes on, and else what `next` is to say.
-    pub fn turn(&mut self) -> Option<Result<Option<Station>, Fault>>
+    fn turn(&mut self) -> Option<Result<Option<Station>, Fault>>
         ensures kept { λ _. ⌜ Kept book pages meter (now (self .entry)) (now (self .exit)) ⌝ }
         ensures phase { λ _. ⌜ now (self .exit) .phase ≡ now (self .entry) .phase ⌝ }
         ensures falls { λ r. ⌜ Falls r (left (now (self .entry))) (left (now (self .exit))) ⌝ }
@@ -110,7 +110,7 @@ impl<S: PageSource, R: Ranking> Run<S, R> {
     }
 
     // Turn after turn, to the next reply.
-    fn drive(&mut self) -> Result<Option<Station>, Fault>
+    fn reply(&mut self) -> Result<Option<Station>, Fault>
         ensures kept { λ _. ⌜ Kept book pages meter (now (self .entry)) (now (self .exit)) ⌝ }
         ensures gives { λ r. ⌜ ((u : Bound) → At (queryOf score (now (self .entry))) (book (now (self .entry) .source)) u (held (now (self .entry) .waiting)) (listing (now (self .entry) .listed)) (now (self .entry) .opened) → Gave (queryOf score (now (self .entry))) (book (now (self .entry) .source)) (listing (now (self .entry) .listed)) r (held (now (self .exit) .waiting)) (listing (now (self .exit) .listed)) (now (self .exit) .opened)) ⌝ }
     {
@@ -122,15 +122,15 @@ impl<S: PageSource, R: Ranking> Run<S, R> {
     }
 
     // Searches on to the next reply. The top is opened first.
-    pub fn search(&mut self) -> Result<Option<Station>, Fault>
+    pub(crate) fn search(&mut self) -> Result<Option<Station>, Fault>
         ensures kept { λ _. ⌜ Kept book pages meter (now (self .entry)) (now (self .exit)) ⌝ }
         ensures gives { λ r. ⌜ (Goes (queryOf score (now (self .entry))) (book (now (self .entry) .source)) (held (now (self .entry) .waiting)) (listing (now (self .entry) .listed)) (now (self .entry) .opened) → Gave (queryOf score (now (self .entry))) (book (now (self .entry) .source)) (listing (now (self .entry) .listed)) r (held (now (self .exit) .waiting)) (listing (now (self .exit) .listed)) (now (self .exit) .opened)) ⌝ }
     {
         if self.opened > 0 {
-            return self.drive();
+            return self.reply();
         }
         match self.open(0) {
-            Ok(_) => self.drive(),
+            Ok(_) => self.reply(),
             Err(fault) => Err(fault),
         }
     }

@@ -1,10 +1,15 @@
-use Rattle.search.specs.States.{Kept, left}
-use Rattle.search.proofs.Runs.{Come}
+use mathlib.Core.List.{List}
+use Prim.Native.Nat.{ℕ}
+use lib.ListN.{length}
+use Rattle.stations.specs.declared.measures.Measures.{Measures}
+use Rattle.books.specs.Books.{Book}
+use Rattle.promises.specs.Histories.{Event, Standing}
+use Rattle.search.specs.Held.{listing}
+use Rattle.search.specs.States.{Unchanged}
+use Rattle.search.specs.Relation.{Produces}
+use Rattle.search.proofs.Driving.{Handing}
 use Rattle.search.proofs.run.Run.drive.Given as given
 
-abbrev pub Inv-loop-reply : given.InvT-loop-reply
-Inv-loop-reply g l =
-    Kept (g .S·PageSource .book) (g .S·PageSource .pages) (g .S·PageSource .meter) (l .entry .self) (l .self) × Come (g .S·PageSource .book) (g .S·PageSource .pages) (g .S·PageSource .meter) (g .R·Ranking .score) (l .entry .self) (l .self)
-
-abbrev pub μ-loop-reply : given.MeasureT-loop-reply
-μ-loop-reply g l = left (l .self)
+abbrev pub Inv-loop : given.InvT-loop
+Inv-loop g l =
+    Unchanged (g .S·PageSource .book) (g .S·PageSource .pages) (l .entry .self) (l .self) × ((rank : Measures → ℕ) (b : Book) (h : List Event) (stood : Standing) (m : ℕ) → Produces (g .S·PageSource .book) (g .S·PageSource .meter) (g .R·Ranking .score) rank b h stood m (l .entry .self) → Handing (g .S·PageSource .book) (g .S·PageSource .meter) (g .R·Ranking .score) rank b h m (length (listing (l .entry .self .listed))) (l .counter) (l .self))

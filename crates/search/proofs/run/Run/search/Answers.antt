@@ -12,19 +12,19 @@ use Rattle.search.proofs.run.Run.search.Needs as need
 pub returns-then-self-gt0 : need.returns-then-self-gt0
 returns-then-self-gt0 g c =
     record {
-      kept = c .drive .ensures .kept;
-      gives = λ h. ⊎-elim (λ f. absurd (omega (arith, f .0, c .if-self-gt0 .taken))) (λ a. c .drive .ensures .gives (a .0) (a .1)) h }
+      kept = c .reply .ensures .kept;
+      gives = λ h. ⊎-elim (λ f. absurd (omega (arith, f .0, c .if-self-gt0 .taken))) (λ a. c .reply .ensures .gives (a .0) (a .1)) h }
 
 pub returns-in-Ok : need.returns-in-Ok
 returns-in-Ok g c =
     let o = c .in-Ok .ensures tt in
     let r = c .args .self .now in
     let r₁ = c .open .last .self in
-    let r₂ = c .drive-in-Ok .last .self in
+    let r₂ = c .reply-in-Ok .last .self in
     record {
-      kept = runs.kept-then (g .S·PageSource .book) (g .S·PageSource .pages) (g .S·PageSource .meter) (g .R·Ranking .score) r r₁ r₂ (o .kept) (c .drive-in-Ok .ensures .kept);
+      kept = runs.kept-then (g .S·PageSource .book) (g .S·PageSource .pages) (g .S·PageSource .meter) (g .R·Ranking .score) r r₁ r₂ (o .kept) (c .reply-in-Ok .ensures .kept);
       gives = λ h. ⊎-elim
-        (λ f. runs.begun-then (g .S·PageSource .book) (g .S·PageSource .pages) (g .S·PageSource .meter) (g .R·Ranking .score) (g .S·PageSource .laws) (g .R·Ranking·met .monotone) r r₁ r₂ (c .drive-in-Ok .result) f (o .kept) (o .listed) (o .opens) (c .drive-in-Ok .ensures .gives))
+        (λ f. runs.begun-then (g .S·PageSource .book) (g .S·PageSource .pages) (g .S·PageSource .meter) (g .R·Ranking .score) (g .S·PageSource .laws) (g .R·Ranking·met .monotone) r r₁ r₂ (c .reply-in-Ok .result) f (o .kept) (o .listed) (o .opens) (c .reply-in-Ok .ensures .gives))
         (λ a. absurd (omega (arith, a .1 .reads, c .if-self-gt0 .left))) h }
 
 pub returns-in-Err : need.returns-in-Err
