@@ -1,0 +1,6 @@
+pub mod Boxes
+pub mod Rolls
+pub mod Laws
+pub mod Facts
+pub mod Places
+pub mod Source
