@@ -1,0 +1,10 @@
+pub mod Steps
+pub mod Entries
+pub mod Walking
+pub mod Loads
+pub mod Counts
+pub mod Passing
+pub mod Fairness
+pub mod Lawfulness
+pub mod Shown
+pub mod Soundness

@@ -1,0 +1,10 @@
+pub mod Layout
+pub mod Notes
+pub mod Listed
+pub mod Checks
+pub mod Loading
+pub mod Soundness
+pub mod Visits
+pub mod Showing
+pub mod Facts
+pub mod Meaning
