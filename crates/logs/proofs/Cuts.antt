@@ -1,21 +1,19 @@
 -- Text cut at a byte, and put together again.
 use mathlib.Core.Path.{_≡_, refl, sym, _∙_, ap}
-use mathlib.Core.Bool.{Bool, true, false, cond}
+use mathlib.Core.Bool.{Bool, true, false}
 use mathlib.Core.List.{List, [], _∷_, _++_, append-assoc, append-nil}
-use mathlib.Core.Logic.{_⊎_, inl, inr}
-use Prim.Native.Nat.{ℕ, zero, suc, _+_, _-_, _<_, _≤_}
+use Prim.Native.Nat.{ℕ, suc, _+_, _-_, _<_, _≤_}
 use native.Mathlib.Omega.{arith}
 use lib.Dec.{eqb}
 use lib.ListN.{length, take, drop, getD}
 use lib.Seq.{take-add}
 use Rattle.std.specs.Holes.{between}
 use Rattle.std.specs.shelf.Lists.{All}
-use Rattle.std.proofs.shelf.Lists.{take-append-drop, drop-drop, at-drop-more, at-drop-all, drop-more, drop-all, length-drop, length-take}
-use Rattle.std.proofs.shelf.Edits.{between-more, between-none}
-use Rattle.std.proofs.shelf.Elements.{all-weaker, all-append}
-use Rattle.std.proofs.shelf.Parts.{between-to-end}
+use Rattle.std.proofs.shelf.Lists.{take-append-drop, drop-drop, at-drop-more, at-drop-all, length-take}
+use Rattle.std.proofs.shelf.Edits.{between-more}
+use Rattle.std.proofs.shelf.Elements.{all-weaker}
 use Rattle.std.proofs.shelf.Tests.{eq-eqb, or-left, or-right, or-parts}
-use Rattle.logs.specs.Pieces.{onto, pieces, join, comma, lineEnd}
+use Rattle.logs.specs.Pieces.{onto, pieces, comma, lineEnd}
 use Rattle.logs.specs.Tokens.{parts, front}
 use Rattle.logs.specs.Lines.{Free}
 
@@ -66,11 +64,13 @@ Fronts text at i = (at ≤ i) × (i ≤ length text) × (between at i text ++ fr
 pub front-more : (text : List ℕ) (at i : ℕ) → i < length text → parts (getD text i 0) ≡ false → Fronts text at i → Fronts text at (i + 1)
 front-more text at i lt e inv =
     let first : at ≤ i = inv .0 in
-    let step : front (drop i text) ≡ getD text i 0 ∷ front (drop (i + 1) text) = front-there text i lt e in
-    (omega arith, omega arith,
+    let step : front (drop i text) ≡ getD text i 0 ∷ front (drop (i + 1) text) = front-there text i lt e in (
+      omega arith,
+      omega arith,
       ap (λ xs. xs ++ front (drop (i + 1) text)) (between-more text at i 0 first lt)
-      ∙ append-assoc (between at i text) (getD text i 0 ∷ []) (front (drop (i + 1) text))
-      ∙ ap (λ xs. between at i text ++ xs) (sym step) ∙ inv .2)
+          ∙ append-assoc (between at i text) (getD text i 0 ∷ []) (front (drop (i + 1) text))
+          ∙ ap (λ xs. between at i text ++ xs) (sym step) ∙ inv .2,
+    )
 
 -- and is all of it where no field goes on
 pub front-ends : (text : List ℕ) (at i : ℕ) → front (drop i text) ≡ [] → Fronts text at i → (at ≤ i) × (i ≤ length text) × (between at i text ≡ front (drop at text))

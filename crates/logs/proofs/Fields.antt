@@ -2,8 +2,8 @@
 use mathlib.Core.Path.{_≡_, refl, sym, _∙_, ap, ap₂}
 use mathlib.Core.Bool.{Bool, true, false, not, cond}
 use mathlib.Core.List.{List, [], _∷_, _++_}
-use mathlib.Core.Logic.{_⊎_, inl, inr}
-use Prim.Native.Nat.{ℕ, suc, _+_, _<_, _≤_}
+use mathlib.Core.Logic.{inl, inr}
+use Prim.Native.Nat.{ℕ, _+_, _<_, _≤_}
 use native.Mathlib.Nat.{add-assoc}
 use native.Mathlib.Numerals.{add-one}
 use native.Mathlib.Omega.{arith}
@@ -12,12 +12,12 @@ use Rattle.std.specs.declared.option.Option.{Option}
 use Rattle.std.specs.declared.option.Option.the-variants.{Some, None}
 use Rattle.stations.specs.declared.fault.Fault.{Fault}
 use Rattle.stations.specs.declared.fault.Code.{Code}
-use Rattle.stations.specs.Faults.{fault, refuseIf, orElse, verdict}
+use Rattle.stations.specs.Faults.{fault, refuseIf, orElse}
 use Rattle.std.proofs.shelf.Lists.{drop-more, drop-all, drop-drop, length-drop, length-set, take-more-set, take-all, append-nil, append-assoc}
 use Rattle.std.proofs.shelf.Elements.{all-drop}
 use Rattle.std.proofs.shelf.Tests.{cases-lt}
 use Rattle.stations.specs.declared.fault.Code.the-variants.{BadField}
-use Rattle.logs.specs.Pieces.{comma, lineEnd, pieces, fieldsOf}
+use Rattle.logs.specs.Pieces.{lineEnd, fieldsOf}
 use Rattle.logs.specs.Fields.{spells, reading, paired}
 use Rattle.logs.specs.Checks.{fieldFault}
 use Rattle.logs.specs.Tokens.{front}
@@ -107,12 +107,13 @@ module _ (line : ℕ) (bytes : List ℕ) (kinds : List FieldKind) (ns : List ℕ
       let joined : drop (length f) (drop at bytes) ≡ drop (at + length f) bytes = drop-drop (length f) at bytes in
       let long = length-drop (j + 1) (fieldsOf bytes) in
       let inside : at + length f < length bytes =
-        elim (cases-lt (at + length f) (length bytes)) [
-          inl h ↦ h
+      elim (cases-lt (at + length f) (length bytes)) [
+        | inl h ↦ h
         | inr h ↦
-          let none : drop (length f) (drop at bytes) ≡ [] = joined ∙ drop-all (at + length f) bytes h in
-          let empty : drop (j + 1) (fieldsOf bytes) ≡ [] = rest-is ∙ ap next none in
-          absurd (omega (arith, ap length empty, long, count, lt)) ] in
+            let none : drop (length f) (drop at bytes) ≡ [] = joined ∙ drop-all (at + length f) bytes h in
+            let empty : drop (j + 1) (fieldsOf bytes) ≡ [] = rest-is ∙ ap next none in
+            absurd (omega (arith, ap length empty, long, count, lt))
+      ] in
       let on : drop (length f) (drop at bytes) ≡ getD bytes (at + length f) 0 ∷ drop (at + length f + 1) bytes = joined ∙ drop-more bytes (at + length f) 0 inside in
       (omega arith, rest-is ∙ ap next on ∙ ap (λ n. fieldsOf (drop n bytes)) (add-assoc at (length f) 1))
 
@@ -123,20 +124,22 @@ module _ (line : ℕ) (bytes : List ℕ) (kinds : List FieldKind) (ns : List ℕ
       let F = fieldsOf bytes in
       let here-is : reading k (getD F j []) ≡ n = ap (reading k) (field-is ∙ sym is) ∙ sym r in
       let step : paired reading (drop j kinds) (drop j F) ≡ n ∷ paired reading (drop (j + 1) kinds) (drop (j + 1) F) =
-        ap₂ (paired reading) (drop-more kinds j Letter more) (drop-more F j [] within) ∙ ap (λ x. x ∷ paired reading (drop (j + 1) kinds) (drop (j + 1) F)) here-is in
+      ap₂ (paired reading) (drop-more kinds j Letter more) (drop-more F j [] within) ∙ ap (λ x. x ∷ paired reading (drop (j + 1) kinds) (drop (j + 1) F)) here-is in
       let lt : j < length ns = omega (arith, g .places) in
       record {
         decides = sym (left-pass spells BadField line kinds F j [] more within (ap (spells k) (field-is ∙ sym is) ∙ e)) ∙ g .decides;
         numbers =
-          ap (λ xs. xs ++ paired reading (drop (j + 1) kinds) (drop (j + 1) F)) (take-more-set ns j n lt)
-          ∙ append-assoc (take j ns) (n ∷ []) (paired reading (drop (j + 1) kinds) (drop (j + 1) F))
-          ∙ ap (λ xs. take j ns ++ xs) (sym step) ∙ g .numbers;
+            ap (λ xs. xs ++ paired reading (drop (j + 1) kinds) (drop (j + 1) F)) (take-more-set ns j n lt)
+            ∙ append-assoc (take j ns) (n ∷ []) (paired reading (drop (j + 1) kinds) (drop (j + 1) F))
+            ∙ ap (λ xs. take j ns ++ xs) (sym step) ∙ g .numbers;
         places = length-set ns j n ∙ g .places;
-        goes = λ h. let a = after h in let m = ap length is in (omega (arith, a .0, m), a .1 ∙ ap (λ xs. fieldsOf (drop (at + (length xs + 1)) bytes)) (sym is)) }
+        goes = λ h. let a = after h in let m = ap length is in (omega (arith, a .0, m), a .1 ∙ ap (λ xs. fieldsOf (drop (at + (length xs + 1)) bytes)) (sym is));
+      }
 
 -- every field is read
 pub going-all : (line : ℕ) (bytes : List ℕ) (kinds : List FieldKind) (ns : List ℕ) (j at : ℕ) → length kinds ≤ j → Going line bytes kinds ns j at → (fieldFault spells BadField line 1 kinds (fieldsOf bytes) ≡ None) × (ns ≡ paired reading kinds (fieldsOf bytes))
-going-all line bytes kinds ns j at past g =
-    (sym (g .decides) ∙ left-none spells BadField line kinds (fieldsOf bytes) j past,
-      sym (append-nil ns) ∙ ap (λ xs. xs ++ []) (sym (take-all j ns (omega (arith, g .places))))
-      ∙ ap (λ ks. take j ns ++ paired reading ks (drop j (fieldsOf bytes))) (sym (drop-all j kinds past)) ∙ g .numbers)
+going-all line bytes kinds ns j at past g = (
+  sym (g .decides) ∙ left-none spells BadField line kinds (fieldsOf bytes) j past,
+  sym (append-nil ns) ∙ ap (λ xs. xs ++ []) (sym (take-all j ns (omega (arith, g .places))))
+      ∙ ap (λ ks. take j ns ++ paired reading ks (drop j (fieldsOf bytes))) (sym (drop-all j kinds past)) ∙ g .numbers,
+)

@@ -1,22 +1,18 @@
 -- The question's line, and the numbers of a line as what they stand for.
-use mathlib.Core.Path.{_≡_, refl, sym, _∙_, ap, ap₂}
-use mathlib.Core.Bool.{true}
+use mathlib.Core.Path.{_≡_, sym, _∙_, ap}
 use mathlib.Core.List.{List, [], _∷_, _++_}
-use Prim.Native.Nat.{ℕ, zero, suc, _+_, _<_, _≤_}
+use Prim.Native.Nat.{ℕ, zero, suc, _+_, _<_}
 use native.Mathlib.Numerals.{add-one}
 use native.Mathlib.Omega.{arith}
 use lib.ListN.{length, drop, getD}
-use Rattle.std.specs.declared.option.Option.{Option}
 use Rattle.std.specs.declared.option.Option.the-variants.{Some, None}
 use Rattle.std.proofs.shelf.Lists.{drop-more, drop-all}
 use Rattle.stations.specs.declared.fault.Fault.{Fault}
-use Rattle.stations.specs.declared.station.Station.{Station}
 use Rattle.stations.specs.declared.question.Question.{Question}
-use Rattle.stations.specs.Faults.{orElse}
 use Rattle.rankings.specs.declared.weights.Ranker.{Ranker}
-use Rattle.logs.specs.Pieces.{linesOf, fieldsOf, lineEnd}
+use Rattle.logs.specs.Pieces.{linesOf, lineEnd}
 use Rattle.logs.specs.Lines.{Found, Unended}
-use Rattle.logs.specs.Fields.{questionLine, stationLine}
+use Rattle.logs.specs.Fields.{questionLine}
 use Rattle.logs.specs.Checks.{lineFault, linesFault, stationsFault, numbersOf, questionOf, stationOf, firstOf, laterOf}
 use Rattle.logs.specs.Rendering.{letterOf, weightsOf, weightNumbers, weightsAt, measureNumbers, questionNumbers, stationNumbers}
 use Rattle.logs.specs.Reading.{Headed}
@@ -64,7 +60,8 @@ headed text bytes fields end ns r q found e is qs =
       within = omega (arith, found .ends);
       decides = ap linesFault (h .3) ∙ after-none (lineFault 1 questionLine bytes) (stationsFault 2 (h .0 ∷ h .1)) e ∙ ap (stationsFault 2) (sym (h .2));
       later = ap laterOf (found .lines);
-      numbers = qs ∙ is ∙ ap (λ ls. numbersOf questionLine (firstOf ls)) (sym (found .lines)) }
+      numbers = qs ∙ is ∙ ap (λ ls. numbersOf questionLine (firstOf ls)) (sym (found .lines));
+    }
 
 pub headless : (text : List ℕ) → Unended text 0 → linesFault (linesOf text) ≡ linesFault (text ∷ [])
 headless text e = ap linesFault e

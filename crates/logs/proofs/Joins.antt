@@ -1,13 +1,13 @@
 -- Cutting and joining undo each other.
 use mathlib.Core.Path.{_≡_, refl, sym, _∙_, ap}
 use mathlib.Core.Bool.{Bool, true, false}
-use mathlib.Core.List.{List, [], _∷_, _++_, append-assoc}
+use mathlib.Core.List.{List, [], _∷_}
 use Prim.Native.Nat.{ℕ}
 use lib.Dec.{eqb}
 use Rattle.std.specs.shelf.Lists.{All}
 use Rattle.std.proofs.shelf.Elements.{all-append}
 use Rattle.std.proofs.shelf.Tests.{eqb-true}
-use Rattle.logs.specs.Pieces.{onto, pieces, join}
+use Rattle.logs.specs.Pieces.{pieces, join}
 use Rattle.logs.specs.Lines.{Free}
 use Rattle.logs.proofs.Cuts.{cut, whole, some-piece}
 

@@ -1,17 +1,15 @@
 -- A text is accepted exactly where it is a rendering, of one log only.
-use mathlib.Core.Path.{_≡_, refl, sym, _∙_, ap, ap₂, subst}
-use mathlib.Core.Bool.{Bool, true, false}
+use mathlib.Core.Path.{_≡_, refl, sym, _∙_, ap}
+use mathlib.Core.Bool.{true, false}
 use mathlib.Core.List.{List, [], _∷_, _++_}
-use mathlib.Core.Logic.{_⊎_, inl, inr}
-use Prim.Native.Nat.{ℕ, suc, _+_, _<_, _≤_}
+use mathlib.Core.Logic.{inl, inr}
+use Prim.Native.Nat.{ℕ, _≤_}
 use native.Mathlib.Omega.{arith}
-use lib.Dec.{ltb, eqb}
+use lib.Dec.{ltb}
 use lib.ListN.{length, drop, getD}
-use Rattle.std.specs.shelf.Lists.{All, joined}
-use Rattle.std.specs.declared.option.Option.{Option}
-use Rattle.std.specs.declared.option.Option.the-variants.{Some, None}
-use Rattle.std.proofs.shelf.Tests.{le-ltb, ltb-false, leb-true, eqb-true, or-cases}
-use Rattle.stations.specs.declared.fault.Fault.{Fault}
+use Rattle.std.specs.shelf.Lists.{joined}
+use Rattle.std.specs.declared.option.Option.the-variants.{None}
+use Rattle.std.proofs.shelf.Tests.{le-ltb, ltb-false, eqb-true, or-cases}
 use Rattle.stations.specs.declared.fault.Code.the-variants.{TextTooLong, ShortBuffer}
 use Rattle.stations.specs.declared.station.Station.{Station}
 use Rattle.stations.specs.declared.question.Question.{Question}
@@ -22,16 +20,15 @@ use Rattle.rankings.specs.declared.weights.Weights.{Weights}
 use Rattle.rankings.specs.declared.weights.Ranker.{Ranker}
 use Rattle.rankings.specs.declared.weights.Ranker.the-variants.{Sum, Largest}
 use Rattle.logs.specs.Pieces.{linesOf, fieldsOf, join, comma, lineEnd}
-use Rattle.logs.specs.Fields.{questionLine, stationLine, sumLetter, largestLetter, reading, writing, admits, paired, pass}
+use Rattle.logs.specs.Fields.{questionLine, sumLetter, largestLetter, reading, writing, admits, paired, pass}
 use Rattle.logs.specs.Checks.{mostBytes, logFault, lineFault, linesFault, stationsFault, questionIn, questionOf, rowIn, stationsIn, numbersOf, firstOf, laterOf}
-use Rattle.logs.specs.Rendering.{rendering, lineText, letterOf, weightsOf, weightNumbers, weightsAt, questionNumbers, stationNumbers, Valid, Rendered, Same, AcceptsExactly}
-use Rattle.logs.specs.declared.field.FieldKind.{FieldKind}
-use Rattle.logs.specs.declared.field.FieldKind.the-variants.{Letter, Number, Measure, Weight}
+use Rattle.logs.specs.Rendering.{rendering, lineText, letterOf, weightsOf, weightNumbers, weightsAt, questionNumbers, Valid, Rendered, Same, AcceptsExactly}
+use Rattle.logs.specs.declared.field.FieldKind.the-variants.{Letter, Measure, Weight}
 use Rattle.logs.proofs.Cuts.{some-piece}
-use Rattle.logs.proofs.Ranges.{pass-at}
+use Rattle.logs.proofs.Ranges.{pass-at, weights-small}
 use Rattle.logs.proofs.Heads.{question-numbers}
 use Rattle.logs.proofs.Verdicts.{neither, passed, after-none, fine-none, length-paired}
-use Rattle.logs.proofs.Texts.{Line, line-of, lines-of, stationText, stations-accepted, stations-back}
+use Rattle.logs.proofs.Texts.{LineOf, line-of, lines-of, stationText, stations-accepted, stations-back}
 use Rattle.logs.proofs.Readings.{afterLines, log-short, lined}
 
 -- the ranking that the numbers of a question's line give
@@ -42,14 +39,12 @@ record Ranked (ns : List ℕ) : Type 0 where
 
 ranked : (ns : List ℕ) → pass admits questionLine ns ≡ true → length ns ≡ 14 → Ranked ns
 ranked ns e long =
-    let small : (i : ℕ) → i < 14 → getD questionLine i Letter ≡ Weight → getD ns i 0 ≤ 1000 =
-      λ i h k. let t : admits Weight (getD ns i 0) ≡ true = ap (λ x. admits x (getD ns i 0)) (sym k) ∙ pass-at admits questionLine ns i 0 e h (omega arith) in leb-true (getD ns i 0) 1000 t in
-    let w : Weights = record { w1 = getD ns 10 0; w2 = getD ns 11 0; w3 = getD ns 12 0; w4 = getD ns 13 0;
-      small = (small 10 (omega arith) refl, small 11 (omega arith) refl, small 12 (omega arith) refl, small 13 (omega arith) refl) } in
+    let w : Weights = record { w1 = getD ns 10 0; w2 = getD ns 11 0; w3 = getD ns 12 0; w4 = getD ns 13 0; small = weights-small ns e long } in
     let l : admits Letter (getD ns 0 0) ≡ true = pass-at admits questionLine ns 0 0 e (omega arith) (omega arith) in
     elim (or-cases _ _ l) [
-      inl a ↦ record { ranker = Sum (record { weights = w }); letter = sym (eqb-true (getD ns 0 0) sumLetter a); weights = refl }
-    | inr b ↦ record { ranker = Largest (record { weights = w }); letter = sym (eqb-true (getD ns 0 0) largestLetter b); weights = refl } ]
+      | inl a ↦ record { ranker = Sum (record { weights = w }); letter = sym (eqb-true (getD ns 0 0) sumLetter a); weights = refl }
+      | inr b ↦ record { ranker = Largest (record { weights = w }); letter = sym (eqb-true (getD ns 0 0) largestLetter b); weights = refl }
+    ]
 
 accepted : (room : ℕ) (text : List ℕ) → logFault room text ≡ None → Rendered room text
 unfolding logFault rendering
@@ -68,23 +63,27 @@ accepted room text e =
     let numbers : questionNumbers (r .ranker) q ≡ ns = question-numbers (r .ranker) q ns long (r .letter) (r .weights) refl in
     let shown : text ≡ rendering (r .ranker) q (rowIn text) = l .shown ∙ ap (λ xs. lineText questionLine xs ++ joined stationText (rowIn text)) (sym numbers) in
     record {
-      ranker = r .ranker; question = q; row = rowIn text;
+      ranker = r .ranker;
+      question = q;
+      row = rowIn text;
       valid = record {
         numbers = ap (pass admits questionLine) numbers ∙ l .admitted;
         stations = l .stations;
         accepted = f .0;
         few = l .few;
         distinct = d .0;
-        short = omega (arith, ap length shown) };
+        short = omega (arith, ap length shown);
+      };
       shown = shown;
-      fits = ltb-false _ _ (passed _ _ (f .1)) }
+      fits = ltb-false _ _ (passed _ _ (f .1));
+    }
 
 -- a rendering, line by line
 module _ (r : Ranker) (q : Question) (row : List Station) (v : Valid r q row) where
   abbrev bytes : List ℕ
   bytes = join comma (paired writing questionLine (questionNumbers r q))
 
-  head-line : Line questionLine (questionNumbers r q)
+  head-line : LineOf questionLine (questionNumbers r q)
   head-line = line-of Letter (Measure ∷ Measure ∷ Measure ∷ Measure ∷ Measure ∷ Measure ∷ Measure ∷ Measure ∷ Measure ∷ Weight ∷ Weight ∷ Weight ∷ Weight ∷ []) (questionNumbers r q) refl (v .numbers)
 
   lines-are : linesOf (rendering r q row) ≡ bytes ∷ linesOf (joined stationText row)
@@ -125,7 +124,8 @@ once r q row r′ q′ row′ v v′ e =
       letter = ap (λ xs. getD xs 0 0) ns;
       weights = ap (drop 10) ns;
       question = ap questionOf ns;
-      stations = sym (row-back r q row v) ∙ ap rowIn e ∙ row-back r′ q′ row′ v′ }
+      stations = sym (row-back r q row v) ∙ ap rowIn e ∙ row-back r′ q′ row′ v′;
+    }
 
 pub accepts-exactly : AcceptsExactly
 accepts-exactly = record { accepted = accepted; rendered = rendered; once = once }

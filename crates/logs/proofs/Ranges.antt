@@ -5,16 +5,15 @@ use mathlib.Core.List.{List, [], _∷_}
 use Prim.Native.Nat.{ℕ, zero, suc, _+_, _^_, _<_, _≤_}
 use native.Mathlib.Omega.{arith}
 use lib.ListN.{length, getD}
-use Rattle.std.specs.declared.option.Option.{Option}
-use Rattle.std.specs.declared.option.Option.the-variants.{Some, None}
-use Rattle.std.proofs.shelf.Tests.{and-parts, and-from, leb-true}
+use Rattle.std.specs.declared.option.Option.the-variants.{None}
+use Rattle.std.proofs.shelf.Tests.{and-parts, leb-true}
 use Rattle.stations.specs.declared.fault.Code.{Code}
 use Rattle.stations.specs.Faults.{fault, refuseIf, orElse}
 use Rattle.stations.specs.Beating.{Ordinary}
 use Rattle.logs.specs.Fields.{admits, pass, questionLine}
 use Rattle.logs.specs.Checks.{fieldFault, measuresAt}
 use Rattle.logs.specs.declared.field.FieldKind.{FieldKind}
-use Rattle.logs.specs.declared.field.FieldKind.the-variants.{Letter, Measure}
+use Rattle.logs.specs.declared.field.FieldKind.the-variants.{Letter, Measure, Weight}
 
 module _ {A : Type 0} (test : FieldKind → A → Bool) where
   -- each passes its own test
@@ -46,5 +45,16 @@ pub ordinary-at : (ks : List FieldKind) (ns : List ℕ) (i : ℕ) → pass admit
     → getD ks i Letter ≡ Measure → getD ks (i + 1) Letter ≡ Measure → getD ks (i + 2) Letter ≡ Measure → getD ks (i + 3) Letter ≡ Measure → Ordinary (measuresAt i ns)
 ordinary-at ks ns i e len fits k0 k1 k2 k3 =
     let small : (j : ℕ) → j < length ks → getD ks j Letter ≡ Measure → getD ns j 0 < 2 ^ 16 =
-      λ j h k. let t : admits Measure (getD ns j 0) ≡ true = ap (λ x. admits x (getD ns j 0)) (sym k) ∙ pass-at admits ks ns j 0 e h (omega arith) in omega (arith, leb-true (getD ns j 0) 65535 t) in
+    λ j h k. let t : admits Measure (getD ns j 0) ≡ true = ap (λ x. admits x (getD ns j 0)) (sym k) ∙ pass-at admits ks ns j 0 e h (omega arith) in omega (arith, leb-true (getD ns j 0) 65535 t) in
     record { in1 = small i (omega arith) k0; in2 = small (i + 1) (omega arith) k1; in3 = small (i + 2) (omega arith) k2; in4 = small (i + 3) (omega arith) k3 }
+
+-- a number in the place of a weight
+pub weight-at : (ns : List ℕ) → pass admits questionLine ns ≡ true → length ns ≡ 14 → (i : ℕ) → i < 14 → getD questionLine i Letter ≡ Weight → getD ns i 0 ≤ 1000
+weight-at ns e long i h k =
+    let t : admits Weight (getD ns i 0) ≡ true = ap (λ x. admits x (getD ns i 0)) (sym k) ∙ pass-at admits questionLine ns i 0 e h (omega arith) in
+    leb-true (getD ns i 0) 1000 t
+
+-- all four of them
+pub weights-small : (ns : List ℕ) → pass admits questionLine ns ≡ true → length ns ≡ 14 → (getD ns 10 0 ≤ 1000) × (getD ns 11 0 ≤ 1000) × (getD ns 12 0 ≤ 1000) × (getD ns 13 0 ≤ 1000)
+weights-small ns e long =
+    (weight-at ns e long 10 (omega arith) refl, weight-at ns e long 11 (omega arith) refl, weight-at ns e long 12 (omega arith) refl, weight-at ns e long 13 (omega arith) refl)

@@ -1,16 +1,16 @@
 -- What a log's text is refused for, check by check, and what an accepted one holds.
 use mathlib.Core.Path.{_≡_, refl, sym, _∙_, ap, ap₂, subst}
-use mathlib.Core.Bool.{Bool, true, false}
+use mathlib.Core.Bool.{true, false}
 use mathlib.Core.List.{List, [], _∷_, _++_, append-assoc}
-use Prim.Native.Nat.{ℕ, zero, suc, _+_, _<_, _≤_}
+use Prim.Native.Nat.{ℕ, _<_, _≤_}
 use native.Mathlib.Omega.{arith}
-use lib.Dec.{ltb, eqb}
-use lib.ListN.{length, take, drop}
+use lib.Dec.{ltb}
+use lib.ListN.{length, take}
 use Rattle.std.specs.shelf.Lists.{All, joined}
 use Rattle.std.specs.declared.option.Option.{Option}
 use Rattle.std.specs.declared.option.Option.the-variants.{Some, None}
-use Rattle.std.proofs.shelf.Lists.{length-take-le, length-take}
-use Rattle.std.proofs.shelf.Tests.{le-ltb, lt-ltb, ltb-false}
+use Rattle.std.proofs.shelf.Lists.{length-take-le}
+use Rattle.std.proofs.shelf.Tests.{le-ltb, lt-ltb}
 use Rattle.stations.specs.declared.fault.Fault.{Fault}
 use Rattle.stations.specs.declared.fault.Code.the-variants.{TextTooLong, ShortBuffer, TooManyStations}
 use Rattle.stations.specs.declared.station.Station.{Station}
@@ -21,10 +21,10 @@ use Rattle.stations.specs.Questions.{questionFault}
 use Rattle.rankings.specs.declared.weights.Ranker.{Ranker}
 use Rattle.logs.specs.Pieces.{linesOf, join, lineEnd}
 use Rattle.logs.specs.Fields.{questionLine, stationLine, admits, pass}
-use Rattle.logs.specs.Checks.{mostBytes, logFault, lineFault, linesFault, stationsFault, questionIn, questionOf, rowIn, stationsIn, numbersOf, firstOf, laterOf}
-use Rattle.logs.specs.Rendering.{rendering, lineText, questionNumbers, stationNumbers, Valid}
+use Rattle.logs.specs.Checks.{mostBytes, logFault, lineFault, linesFault, questionIn, questionOf, rowIn, stationsIn, numbersOf, firstOf, laterOf}
+use Rattle.logs.specs.Rendering.{rendering, lineText, stationNumbers, Valid}
 use Rattle.logs.specs.Reading.{Headed, Filled}
-use Rattle.logs.proofs.Verdicts.{neither, passed, after-none, at-some, Fine, fine-from}
+use Rattle.logs.proofs.Verdicts.{neither, after-none, at-some, Fine, fine-from}
 use Rattle.logs.proofs.Joins.{join-pieces}
 use Rattle.logs.proofs.Texts.{line-written, stationText, stations-text, stations-admitted, stations-few, zero-none}
 
@@ -64,6 +64,7 @@ lined text e = go (linesOf text) refl e
   where
     none : Some (fault (Rattle.stations.specs.declared.fault.Code.the-variants.BadField) 1 0) ≡ None → Lined text
     none h = let z : _≡_ {A = ℕ} 0 1 = cc in absurd (omega arith)
+
     go : (ls : List (List ℕ)) → linesOf text ≡ ls → linesFault ls ≡ None → Lined text
     go [] is h = none h
     go (p ∷ []) is h = none h
@@ -80,9 +81,10 @@ lined text e = go (linesOf text) refl e
           stations = subst (All (λ s. pass admits stationLine (stationNumbers s) ≡ true)) (sym row) (stations-admitted 2 (q ∷ ps) (a .1));
           few = omega (arith, stations-few 2 (q ∷ ps) (omega arith) (a .1), ap length row);
           shown =
-            whole ∙ ap (λ xs. p ++ lineEnd ∷ xs) (stations-text 2 (q ∷ ps) (a .1))
-            ∙ sym (append-assoc p (lineEnd ∷ []) (joined stationText (stationsIn (q ∷ ps))))
-            ∙ ap₂ (λ xs ss. xs ++ joined stationText ss) (front ∙ ap (λ x. lineText questionLine (numbersOf questionLine x)) (sym first)) (sym row) }
+              whole ∙ ap (λ xs. p ++ lineEnd ∷ xs) (stations-text 2 (q ∷ ps) (a .1))
+              ∙ sym (append-assoc p (lineEnd ∷ []) (joined stationText (stationsIn (q ∷ ps))))
+              ∙ ap₂ (λ xs ss. xs ++ joined stationText ss) (front ∙ ap (λ x. lineText questionLine (numbersOf questionLine x)) (sym first)) (sym row);
+        }
 
 -- what the reader has in hand once both kinds of line are read
 module _ (text : List ℕ) (r : Ranker) (q : Question) (next : ℕ) (local : List Station) (count : ℕ) (short : length text ≤ mostBytes) (head : Headed text r q next) (filled : Filled text next local count) where
@@ -124,4 +126,5 @@ module _ (text : List ℕ) (r : Ranker) (q : Question) (next : ℕ) (local : Lis
         accepted = asked;
         few = (let c : count ≤ mostStations = filled .few in omega (arith, row-long));
         distinct = sym row-fault ∙ rows;
-        short = omega (arith, ap length shown-is) }
+        short = omega (arith, ap length shown-is);
+      }

@@ -2,11 +2,10 @@
 use mathlib.Core.Path.{_≡_, refl, sym, _∙_, ap, ap₂}
 use mathlib.Core.Bool.{Bool, true, false}
 use mathlib.Core.List.{List, [], _∷_, _++_}
-use Prim.Native.Nat.{ℕ, zero, suc, _+_, _<_, _≤_}
+use Prim.Native.Nat.{ℕ, suc, _+_, _<_, _≤_}
 use native.Mathlib.Omega.{arith}
 use lib.Dec.{eqb, ltb}
 use lib.ListN.{length, take, drop, getD, set}
-use Rattle.std.specs.declared.option.Option.{Option}
 use Rattle.std.specs.declared.option.Option.the-variants.{Some, None}
 use Rattle.std.proofs.shelf.Lists.{drop-more, drop-all, append-assoc, append-nil, take-more-set, length-set}
 use Rattle.std.proofs.shelf.Tests.{le-ltb, lt-ltb}
@@ -15,7 +14,7 @@ use Rattle.stations.specs.declared.fault.Code.the-variants.{TooManyStations, Ba
 use Rattle.stations.specs.declared.station.Station.{Station}
 use Rattle.stations.specs.Faults.{fault, refuseIf, orElse}
 use Rattle.stations.specs.Rows.{mostStations}
-use Rattle.logs.specs.Pieces.{linesOf, lineEnd, onto, pieces}
+use Rattle.logs.specs.Pieces.{linesOf, lineEnd, pieces}
 use Rattle.logs.specs.Lines.{Found, Unended}
 use Rattle.logs.specs.Fields.{stationLine}
 use Rattle.logs.specs.Checks.{lineFault, stationsFault, crowdFault, tailFault, numbersOf, stationOf, stationsIn}
@@ -38,9 +37,11 @@ crowd-first line b bs f e = go (eqb b lineEnd) refl
   where
     h : (p : List ℕ) × (ps : List (List ℕ)) × (pieces lineEnd bs ≡ p ∷ ps)
     h = some-piece lineEnd bs
+
     ended : (p : List ℕ) (ps : List (List ℕ)) → stationsFault line ((b ∷ p) ∷ ps) ≡ Some f
     ended p [] = at-some _ _ f e
     ended p (q ∷ ps) = at-some _ _ f e
+
     go : (t : Bool) → eqb b lineEnd ≡ t → stationsFault line (linesOf (b ∷ bs)) ≡ Some f
     go true t = rw (t, h .2) (at-some _ _ f e)
     go false t = rw (t, h .2) (ended (h .0) (h .1))
@@ -54,7 +55,8 @@ module _ (text : List ℕ) (start : ℕ) (row : List Station) (at count : ℕ) (
         few = g .few;
         places = g .places;
         decides = sym (g .decides) ∙ ap (λ bs. stationsFault (count + 2) (linesOf bs)) e;
-        stations = sym (append-nil _) ∙ ap (λ bs. take count row ++ stationsIn (linesOf bs)) (sym e) ∙ g .stations }
+        stations = sym (append-nil _) ∙ ap (λ bs. take count row ++ stationsIn (linesOf bs)) (sym e) ∙ g .stations;
+      }
 
   module _ (more : at < length text) where
     here : drop at text ≡ getD text at 0 ∷ drop (at + 1) text
@@ -96,15 +98,16 @@ module _ (text : List ℕ) (start : ℕ) (row : List Station) (at count : ℕ) (
         going-more s e is =
             let rest = stationsIn (linesOf (drop (end + 1) text)) in
             let step : stationsIn (linesOf (drop at text)) ≡ s ∷ rest =
-              ap stationsIn (two .3) ∙ ap₂ (λ x ls. x ∷ stationsIn ls) (sym is) (sym (two .2)) in
+            ap stationsIn (two .3) ∙ ap₂ (λ x ls. x ∷ stationsIn ls) (sym is) (sym (two .2)) in
             record {
               within = omega (arith, found .ends);
               few = omega arith;
               places = length-set row count s ∙ g .places;
               decides =
-                ap (λ n. stationsFault n (linesOf (drop (end + 1) text))) (let n : count + 1 + 2 ≡ suc (count + 2) = omega arith in n)
-                ∙ sym (line-first ∙ after-none _ _ e);
+                  ap (λ n. stationsFault n (linesOf (drop (end + 1) text))) (let n : count + 1 + 2 ≡ suc (count + 2) = omega arith in n)
+                  ∙ sym (line-first ∙ after-none _ _ e);
               stations =
-                ap (λ xs. xs ++ rest) (take-more-set row count s (omega (arith, g .places)))
-                ∙ append-assoc (take count row) (s ∷ []) rest
-                ∙ ap (λ xs. take count row ++ xs) (sym step) ∙ g .stations }
+                  ap (λ xs. xs ++ rest) (take-more-set row count s (omega (arith, g .places)))
+                  ∙ append-assoc (take count row) (s ∷ []) rest
+                  ∙ ap (λ xs. take count row ++ xs) (sym step) ∙ g .stations;
+            }

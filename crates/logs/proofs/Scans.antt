@@ -1,11 +1,11 @@
 -- A line is looked for token by token.
 use mathlib.Core.Path.{_≡_, refl, sym, _∙_, ap, subst}
 use mathlib.Core.List.{List, [], _∷_, _++_}
-use Prim.Native.Nat.{ℕ, suc, _+_, _-_, _<_, _≤_}
+use Prim.Native.Nat.{ℕ, _+_, _<_, _≤_}
 use native.Mathlib.Omega.{arith}
 use lib.ListN.{length, take, drop, getD}
 use Rattle.std.specs.Holes.{between}
-use Rattle.std.proofs.shelf.Lists.{drop-more, drop-all, length-drop}
+use Rattle.std.proofs.shelf.Lists.{drop-more, length-drop}
 use Rattle.std.proofs.shelf.Elements.{all-append}
 use Rattle.std.proofs.shelf.Edits.{between-none}
 use Rattle.std.proofs.shelf.Parts.{between-to-end}
@@ -24,10 +24,12 @@ pub record Scan (text : List ℕ) (start at commas : ℕ) : Type 0 where
 
 pub scan-none : (text : List ℕ) (start : ℕ) → start ≤ length text → Scan text start start 0
 scan-none text start le = record {
-  starts = omega arith; within = le;
+  starts = omega arith;
+  within = le;
   free = rw (between-none text start) tt;
   counted = rw (between-none text start);
-  bound = omega arith }
+  bound = omega arith;
+}
 
 scan-more : (text : List ℕ) (start at commas k more : ℕ) → Scan text start at commas → at + k ≤ length text → Free lineEnd (take k (drop at text)) → length (fieldsOf (take k (drop at text))) ≡ more + 1 → more ≤ k → Scan text start (at + k) (commas + more)
 scan-more text start at commas k more s fits free count small =
@@ -35,10 +37,12 @@ scan-more text start at commas k more s fits free count small =
     let both = length-pieces comma (between start at text) (take k (drop at text)) in
     let sum : length (fieldsOf (between start at text ++ take k (drop at text))) ≡ commas + more + 1 = omega (arith, both, s .counted) in
     record {
-      starts = omega arith; within = fits;
+      starts = omega arith;
+      within = fits;
       free = subst (Free lineEnd) (sym e) (all-append _ _ _ (s .free) free);
       counted = ap (λ xs. length (fieldsOf xs)) e ∙ sum;
-      bound = omega arith }
+      bound = omega arith;
+    }
 
 -- a field, which is the front of what is left
 pub scan-field : (text : List ℕ) (start at commas : ℕ) (bytes : List ℕ) → Scan text start at commas → bytes ≡ front (drop at text) → Scan text start (at + length bytes) commas
@@ -64,10 +68,13 @@ scan-end text start at commas s lt is =
     let left : drop at text ≡ lineEnd ∷ drop (at + 1) text = drop-more text at 0 lt ∙ ap (λ b. b ∷ drop (at + 1) text) is in
     let all : drop start text ≡ between start at text ++ lineEnd ∷ drop (at + 1) text = between-drop text start at (s .starts) ∙ ap (λ xs. between start at text ++ xs) left in
     record {
-      starts = s .starts; ends = lt; bytes-are = refl;
+      starts = s .starts;
+      ends = lt;
+      bytes-are = refl;
       lines = ap linesOf all ∙ cut lineEnd (between start at text) (drop (at + 1) text) (s .free);
       free = s .free;
-      count = sym (s .counted) }
+      count = sym (s .counted);
+    }
 
 -- the end of the text
 pub scan-past : (text : List ℕ) (start at commas : ℕ) → Scan text start at commas → length text ≤ at → Unended text start

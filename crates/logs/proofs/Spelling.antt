@@ -1,8 +1,8 @@
 -- Numbers as a log spells them.
-use mathlib.Core.Path.{_≡_, refl, sym, _∙_, ap}
-use mathlib.Core.Bool.{Bool, true, false, cond, not, _&&_}
-use mathlib.Core.List.{List, [], _∷_, _++_}
-use mathlib.Core.Logic.{_⊎_, inl, inr}
+use mathlib.Core.Path.{_≡_, sym, _∙_, ap}
+use mathlib.Core.Bool.{true, false, not, _&&_}
+use mathlib.Core.List.{List}
+use mathlib.Core.Logic.{_⊎_}
 use Prim.Native.Nat.{ℕ, _+_, _-_, _*_, _^_, _<_, _≤_}
 use native.Mathlib.Nat.{pow-suc}
 use native.Mathlib.Numerals.{add-one}
@@ -12,10 +12,8 @@ use lib.ListN.{length, drop, getD}
 use borrow.Author.Needs.{needs}
 use Rattle.std.specs.Text.{asciiDigit}
 use Rattle.std.specs.shelf.Text.{allDigits}
-use Rattle.std.specs.declared.option.Option.{Option}
-use Rattle.std.specs.declared.option.Option.the-variants.{Some, None}
 use Rattle.std.proofs.shelf.Lists.{at-drop-more, at-drop-all}
-use Rattle.std.proofs.shelf.Tests.{and-right, and-left, and-from, and-parts, cond-true, cond-false, le-leb}
+use Rattle.std.proofs.shelf.Tests.{and-right, and-left, and-from, le-leb}
 use Rattle.std.proofs.shelf.Ways.{tells}
 use Rattle.std.proofs.shelf.Numerals.{Numerals, numerals-by-fold}
 use Rattle.logs.specs.Numerals.{spelled, readOn, value}
@@ -39,10 +37,11 @@ digit-more bs i n lt low high inv =
     let d : asciiDigit (getD bs i 0) ≡ true = and-from _ _ (le-leb 48 _ low) (le-leb _ 57 high) in
     let step : allDigits (drop i bs) ≡ (asciiDigit (getD bs i 0) && allDigits (drop (i + 1) bs)) = at-drop-more allDigits bs i 0 lt in
     let on : readOn n (drop i bs) ≡ readOn (10 * n + (getD bs i 0 - 48)) (drop (i + 1) bs) = at-drop-more (readOn n) bs i 0 lt in
-    let small : n < 10 ^ i = inv .2 in
-    (sym (step ∙ ap (λ t. t && allDigits (drop (i + 1) bs)) d) ∙ inv .0,
+    let small : n < 10 ^ i = inv .2 in (
+      sym (step ∙ ap (λ t. t && allDigits (drop (i + 1) bs)) d) ∙ inv .0,
       sym on ∙ inv .1,
-      rw (add-one, pow-suc) (omega arith))
+      rw (add-one, pow-suc) (omega arith),
+    )
 
 -- all of them read
 pub digits-read : (bs : List ℕ) (i n : ℕ) → length bs ≤ i → Along bs i n → (allDigits bs ≡ true) × (n ≡ value bs)

@@ -1,27 +1,25 @@
 -- A text and its lines: what is accepted is a rendering, and a rendering is accepted.
-use mathlib.Core.Path.{_≡_, refl, sym, _∙_, ap, ap₂, subst}
-use mathlib.Core.Bool.{Bool, true, false}
+use mathlib.Core.Path.{_≡_, refl, sym, _∙_, ap, ap₂}
+use mathlib.Core.Bool.{true, false}
 use mathlib.Core.List.{List, [], _∷_, _++_, append-assoc}
-use Prim.Native.Nat.{ℕ, zero, suc, _+_, _<_, _≤_}
+use Prim.Native.Nat.{ℕ, suc, _+_, _≤_}
 use native.Mathlib.Omega.{arith}
 use lib.Dec.{ltb, eqb}
 use lib.ListN.{length}
 use Rattle.std.specs.shelf.Lists.{All, joined}
-use Rattle.std.specs.declared.option.Option.{Option}
 use Rattle.std.specs.declared.option.Option.the-variants.{Some, None}
 use Rattle.std.proofs.shelf.Tests.{and-parts, ltb-true, ltb-false, le-ltb, ne-eqb}
-use Rattle.stations.specs.declared.fault.Fault.{Fault}
 use Rattle.stations.specs.declared.fault.Code.the-variants.{BadField, TooManyStations, OutOfRange}
 use Rattle.stations.specs.declared.station.Station.{Station}
 use Rattle.stations.specs.Faults.{fault, refuseIf, orElse}
 use Rattle.stations.specs.Rows.{mostStations, zeroFault}
-use Rattle.logs.specs.Pieces.{join, comma, lineEnd, fieldsOf, linesOf, pieces}
+use Rattle.logs.specs.Pieces.{join, comma, lineEnd, fieldsOf, linesOf}
 use Rattle.logs.specs.Lines.{Free}
-use Rattle.logs.specs.Fields.{questionLine, stationLine, spells, reading, writing, admits, paired, pass}
+use Rattle.logs.specs.Fields.{stationLine, spells, reading, writing, admits, paired, pass}
 use Rattle.logs.specs.Checks.{lineFault, numbersOf, crowdFault, tailFault, stationsFault, stationsIn, stationOf}
 use Rattle.logs.specs.Rendering.{lineText, stationNumbers}
 use Rattle.logs.specs.declared.field.FieldKind.{FieldKind}
-use Rattle.logs.specs.declared.field.FieldKind.the-variants.{Letter, Number, Measure, Weight}
+use Rattle.logs.specs.declared.field.FieldKind.the-variants.{Number, Measure}
 use Rattle.logs.proofs.Cuts.{cut, some-piece}
 use Rattle.logs.proofs.Joins.{join-pieces, pieces-join, join-free}
 use Rattle.logs.proofs.Writing.{writes-read, reads-written, spells-written, commas-written, ends-written}
@@ -88,12 +86,12 @@ zero-none i (s ∷ row) h =
     ap (λ t. orElse (refuseIf t (fault OutOfRange i 0)) (zeroFault (suc i) row)) some ∙ zero-none (suc i) row (h .1)
 
 -- a line as it is written: it is accepted, it says its numbers, and no line ends in it
-pub record Line (ks : List FieldKind) (ns : List ℕ) : Type 0 where
+pub record LineOf (ks : List FieldKind) (ns : List ℕ) : Type 0 where
   pub fine : Fine ks (join comma (paired writing ks ns))
   pub says : numbersOf ks (join comma (paired writing ks ns)) ≡ ns
   pub free : Free lineEnd (join comma (paired writing ks ns))
 
-pub line-of : (k : FieldKind) (ks : List FieldKind) (ns : List ℕ) → length ns ≡ length (k ∷ ks) → pass admits (k ∷ ks) ns ≡ true → Line (k ∷ ks) ns
+pub line-of : (k : FieldKind) (ks : List FieldKind) (ns : List ℕ) → length ns ≡ length (k ∷ ks) → pass admits (k ∷ ks) ns ≡ true → LineOf (k ∷ ks) ns
 line-of k ks [] e h = absurd (omega arith)
 line-of k ks (n ∷ ns) e h =
     let c = commas-written (k ∷ ks) (n ∷ ns) h in
@@ -104,15 +102,17 @@ line-of k ks (n ∷ ns) e h =
       fine = record {
         count = ap length fields ∙ length-paired writing (k ∷ ks) (n ∷ ns) e;
         spelled = ap (pass spells (k ∷ ks)) fields ∙ spells-written (k ∷ ks) (n ∷ ns) h;
-        admitted = ap (pass admits (k ∷ ks)) says ∙ h };
+        admitted = ap (pass admits (k ∷ ks)) says ∙ h;
+      };
       says = says;
-      free = join-free lineEnd comma (writing k n) (paired writing ks ns) refl (d .0) (d .1) }
+      free = join-free lineEnd comma (writing k n) (paired writing ks ns) refl (d .0) (d .1);
+    }
 
 -- a line in front of a text
-pub lines-of : (ks : List FieldKind) (ns : List ℕ) (rest : List ℕ) → Line ks ns → linesOf (lineText ks ns ++ rest) ≡ join comma (paired writing ks ns) ∷ linesOf rest
+pub lines-of : (ks : List FieldKind) (ns : List ℕ) (rest : List ℕ) → LineOf ks ns → linesOf (lineText ks ns ++ rest) ≡ join comma (paired writing ks ns) ∷ linesOf rest
 lines-of ks ns rest l = ap linesOf (append-assoc (join comma (paired writing ks ns)) (lineEnd ∷ []) rest) ∙ cut lineEnd (join comma (paired writing ks ns)) rest (l .free)
 
-station-line : (s : Station) → pass admits stationLine (stationNumbers s) ≡ true → Line stationLine (stationNumbers s)
+station-line : (s : Station) → pass admits stationLine (stationNumbers s) ≡ true → LineOf stationLine (stationNumbers s)
 station-line s h = line-of Number (Measure ∷ Measure ∷ Measure ∷ Measure ∷ []) (stationNumbers s) refl h
 
 -- the stations' lines are accepted while there is room, and give the stations back

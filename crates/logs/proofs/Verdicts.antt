@@ -1,14 +1,13 @@
 -- Refusals, one check after another.
-use mathlib.Core.Path.{_≡_, refl, sym, _∙_, ap}
+use mathlib.Core.Path.{_≡_, refl, _∙_, ap}
 use mathlib.Core.Bool.{Bool, true, false, not}
 use mathlib.Core.List.{List, [], _∷_}
-use Prim.Native.Nat.{ℕ, suc, _+_, _<_, _≤_}
+use Prim.Native.Nat.{ℕ, suc}
 use native.Mathlib.Omega.{arith}
 use lib.Dec.{eqb}
 use lib.ListN.{length}
 use Rattle.std.specs.declared.option.Option.{Option}
 use Rattle.std.specs.declared.option.Option.the-variants.{Some, None}
-use Rattle.std.specs.declared.result.Result.{Result}
 use Rattle.std.specs.declared.result.Result.the-variants.{Ok, Err}
 use Rattle.std.proofs.shelf.Tests.{not-false, eqb-true, eq-eqb, not-from-true}
 use Rattle.stations.specs.declared.fault.Fault.{Fault}
@@ -56,7 +55,8 @@ fine-from line kinds bytes e =
     record {
       count = eqb-true _ _ (not-false _ (passed _ _ (a .0)));
       spelled = pass-from spells BadField line 1 kinds (fieldsOf bytes) (b .0);
-      admitted = pass-from admits OutOfRange line 1 kinds (numbersOf kinds bytes) (b .1) }
+      admitted = pass-from admits OutOfRange line 1 kinds (numbersOf kinds bytes) (b .1);
+    }
 
 pub fine-none : (line : ℕ) (kinds : List FieldKind) (bytes : List ℕ) → Fine kinds bytes → lineFault line kinds bytes ≡ None
 fine-none line kinds bytes h =
@@ -70,3 +70,9 @@ pub length-paired : {A B : Type 0} (f : FieldKind → A → B) (ks : List FieldK
 length-paired f [] xs e = refl
 length-paired f (k ∷ ks) [] e = absurd (omega arith)
 length-paired f (k ∷ ks) (x ∷ xs) e = ap suc (length-paired f ks xs (omega arith))
+
+-- the numbers of an accepted line: as many as its kinds, and each in range
+pub fine-numbers : (line : ℕ) (kinds : List FieldKind) (bytes ns : List ℕ) → lineFault line kinds bytes ≡ None → ns ≡ numbersOf kinds bytes → (length ns ≡ length kinds) × (pass admits kinds ns ≡ true)
+fine-numbers line kinds bytes ns e is =
+    let fine = fine-from line kinds bytes e in
+    (ap length is ∙ length-paired reading kinds (fieldsOf bytes) (fine .count), ap (pass admits kinds) is ∙ fine .admitted)

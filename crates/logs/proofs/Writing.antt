@@ -1,11 +1,11 @@
 -- Fields as they are written and as they are read.
-use mathlib.Core.Path.{_≡_, refl, sym, _∙_, ap, ap₂, subst}
-use mathlib.Core.Bool.{Bool, true, false, not, cond, _&&_, _||_}
-use mathlib.Core.List.{List, [], _∷_, _++_}
+use mathlib.Core.Path.{_≡_, refl, _∙_, ap, ap₂}
+use mathlib.Core.Bool.{true, false, _&&_}
+use mathlib.Core.List.{List, [], _∷_}
 use mathlib.Core.Logic.{_⊎_, inl, inr}
-use Prim.Native.Nat.{ℕ, zero, suc, _+_, _^_, _<_, _≤_}
+use Prim.Native.Nat.{ℕ, _^_, _<_, _≤_}
 use native.Mathlib.Omega.{arith}
-use lib.Dec.{eqb, leb, ltb}
+use lib.Dec.{eqb, ltb}
 use lib.ListN.{length, getD}
 use Rattle.std.specs.Text.{asciiDigit}
 use Rattle.std.specs.Written.{decimal}
@@ -13,7 +13,7 @@ use Rattle.std.specs.shelf.Text.{allDigits}
 use Rattle.std.specs.shelf.Lists.{All}
 use Rattle.std.proofs.shelf.Decimals.{decimal-value, digits-decimal, value-decimal, decimal-some, length-decimal-le, first-decimal, decimal-digit}
 use Rattle.std.proofs.shelf.Numerals.{value-short}
-use Rattle.std.proofs.shelf.Tests.{false≢true, and-parts, and-from, leb-true, ltb-true, eqb-true, eqb-false, ne-eqb, eq-eqb, not-true, and-cases, cases-eq, or-cases}
+use Rattle.std.proofs.shelf.Tests.{false≢true, and-parts, and-from, leb-true, ltb-true, eqb-true, ne-eqb, not-true, cases-eq}
 use Rattle.std.proofs.shelf.Ways.{tells}
 use Rattle.logs.specs.Pieces.{comma, lineEnd}
 use Rattle.logs.specs.Lines.{Free}
@@ -41,7 +41,8 @@ spelled-parts bs e =
       some = some;
       short = leb-true _ _ (d .1);
       lead = λ z. grind (arith, tells);
-      digits = a .1 }
+      digits = a .1;
+    }
 
 number-again : (bs : List ℕ) → spelled bs ≡ true → decimal (value bs) ≡ bs
 number-again bs e =
@@ -79,9 +80,10 @@ decimal-spelled : (n : ℕ) → n < 10 ^ 10 → spelled (decimal n) ≡ true
 decimal-spelled n small =
     let fits : n < 2 ^ 64 = omega arith in
     let first : ((getD (decimal n) 0 0 ≡ 48) × (length (decimal n) ≤ 1)) ⊎ (getD (decimal n) 0 0 ≡ 48 → ⊥) =
-      elim (cases-eq n 0) [
-        inl z ↦ (let d : decimal n ≡ 48 ∷ [] = ap decimal z ∙ decimal-digit 0 (omega arith) in inl (ap (λ bs. getD bs 0 0) d, omega (arith, ap length d)))
-      | inr h ↦ inr (λ e. omega (arith, first-decimal n (let p : 0 < n = omega arith in p) fits)) ] in
+    elim (cases-eq n 0) [
+      | inl z ↦ (let d : decimal n ≡ 48 ∷ [] = ap decimal z ∙ decimal-digit 0 (omega arith) in inl (ap (λ bs. getD bs 0 0) d, omega (arith, ap length d)))
+      | inr h ↦ inr (λ e. omega (arith, first-decimal n (let p : 0 < n = omega arith in p) fits))
+    ] in
     spelled-from (decimal n) (decimal-some n fits) (length-decimal-le 10 n (omega arith) small fits) first (digits-decimal own n fits)
 
 module _ (n : ℕ) (small : n < 10 ^ 10) where
@@ -100,9 +102,11 @@ module _ (n : ℕ) (small : n < 10 ^ 10) where
 pub written : (k : FieldKind) (n : ℕ) → admits k n ≡ true → Written k n
 written Letter n e =
     record {
-      spelled = and-from _ _ refl e; read = refl;
+      spelled = and-from _ _ refl e;
+      read = refl;
       no-comma = (grind (arith, tells), tt);
-      no-end = (grind (arith, tells), tt) }
+      no-end = (grind (arith, tells), tt);
+    }
 written Number n e =
     let small : n < 10 ^ 10 = omega (arith, leb-true n 4294967295 (and-parts _ _ e .1)) in
     record { spelled = decimal-spelled n small; read = decimal-read n small; no-comma = decimal-no-comma n small; no-end = decimal-no-end n small }

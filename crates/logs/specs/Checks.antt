@@ -1,5 +1,5 @@
 -- When a log is refused: the first refusal, in checking order.
-use mathlib.Core.Bool.{Bool, cond, not}
+use mathlib.Core.Bool.{Bool, not}
 use mathlib.Core.List.{List, [], _∷_}
 use Prim.Native.Nat.{ℕ, suc, _+_}
 use lib.Dec.{eqb, ltb}
@@ -78,19 +78,21 @@ stationsIn [] = []
 stationsIn (p ∷ []) = []
 stationsIn (p ∷ q ∷ ps) = stationOf (numbersOf stationLine p) ∷ stationsIn (q ∷ ps)
 
--- the first line, and the lines after it
+-- the first line
 abbrev pub firstOf : List (List ℕ) → List ℕ
 firstOf [] = []
 firstOf (p ∷ ps) = p
 
+-- the lines after it
 abbrev pub laterOf : List (List ℕ) → List (List ℕ)
 laterOf [] = []
 laterOf (p ∷ ps) = ps
 
--- the question and the stations of a text
+-- the question of a text
 abbrev pub questionIn : List ℕ → Question
 questionIn text = questionOf (numbersOf questionLine (firstOf (linesOf text)))
 
+-- the stations of a text
 abbrev pub rowIn : List ℕ → List Station
 rowIn text = stationsIn (laterOf (linesOf text))
 

@@ -1,5 +1,5 @@
 -- The kinds of field, and the two kinds of line as rows of them.
-use mathlib.Core.Bool.{Bool, cond, true, _&&_, _||_}
+use mathlib.Core.Bool.{Bool, true, _&&_, _||_}
 use mathlib.Core.List.{List, [], _∷_}
 use Prim.Native.Nat.{ℕ}
 use lib.Dec.{eqb, leb, ltb}
@@ -17,10 +17,11 @@ questionLine = Letter ∷ Measure ∷ Measure ∷ Measure ∷ Measure ∷ Measur
 abbrev pub stationLine : List FieldKind
 stationLine = Number ∷ Measure ∷ Measure ∷ Measure ∷ Measure ∷ []
 
--- the letters of the two rankings
+-- S names the weighted sum
 abbrev pub sumLetter : ℕ
 sumLetter = 83
 
+-- W names the largest product
 abbrev pub largestLetter : ℕ
 largestLetter = 87
 

@@ -1,8 +1,8 @@
 -- A line of a text, found from its first place.
 use mathlib.Core.Path.{_≡_}
 use mathlib.Core.List.{List, [], _∷_}
-use Prim.Native.Nat.{ℕ, _+_, _<_, _≤_}
 use mathlib.Core.Bool.{false}
+use Prim.Native.Nat.{ℕ, _+_, _<_, _≤_}
 use lib.Dec.{eqb}
 use lib.ListN.{length, drop}
 use Rattle.std.specs.Holes.{between}
@@ -13,7 +13,7 @@ use Rattle.logs.specs.Pieces.{lineEnd, linesOf, fieldsOf}
 abbrev pub Free : ℕ → List ℕ → Type 0
 Free sep bs = All (λ b. eqb b sep ≡ false) bs
 
--- the line from `start` to its end, and how many fields it has
+-- the line from `start` to its end, the lines after it, and how many fields it has
 pub record Found (text : List ℕ) (start : ℕ) (bytes : List ℕ) (fields end : ℕ) : Type 0 where
   pub starts : start ≤ end
   pub ends : end < length text

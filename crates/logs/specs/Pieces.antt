@@ -1,5 +1,5 @@
 -- Text cut at a byte, and put together again.
-use mathlib.Core.Bool.{Bool, cond}
+use mathlib.Core.Bool.{cond}
 use mathlib.Core.List.{List, [], _∷_, _++_}
 use Prim.Native.Nat.{ℕ}
 use lib.Dec.{eqb}
@@ -20,10 +20,11 @@ join sep [] = []
 join sep (p ∷ []) = p
 join sep (p ∷ q ∷ ps) = p ++ sep ∷ join sep (q ∷ ps)
 
--- the bytes that part fields and end lines
+-- the byte between two fields
 abbrev pub comma : ℕ
 comma = 44
 
+-- the byte at the end of every line
 abbrev pub lineEnd : ℕ
 lineEnd = 10
 

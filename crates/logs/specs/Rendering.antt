@@ -5,7 +5,6 @@ use mathlib.Core.List.{List, [], _∷_, _++_}
 use Prim.Native.Nat.{ℕ, _+_, _≤_}
 use lib.ListN.{length, getD}
 use Rattle.std.specs.shelf.Lists.{All, joined}
-use Rattle.std.specs.declared.option.Option.{Option}
 use Rattle.std.specs.declared.option.Option.the-variants.{None}
 use Rattle.stations.specs.declared.measures.Measures.{Measures}
 use Rattle.stations.specs.declared.station.Station.{Station}
@@ -34,7 +33,7 @@ weightsOf (Largest s) = s .weights
 abbrev pub weightNumbers : Weights → List ℕ
 weightNumbers w = w .w1 ∷ w .w2 ∷ w .w3 ∷ w .w4 ∷ []
 
--- four numbers from place i on
+-- the four numbers from place i on, in order
 abbrev pub weightsAt : ℕ → List ℕ → List ℕ
 weightsAt i ns = getD ns i 0 ∷ getD ns (i + 1) 0 ∷ getD ns (i + 2) 0 ∷ getD ns (i + 3) 0 ∷ []
 
@@ -58,7 +57,7 @@ lineText kinds ns = join comma (paired writing kinds ns) ++ lineEnd ∷ []
 unfoldable pub rendering : Ranker → Question → List Station → List ℕ
 rendering r q row = lineText questionLine (questionNumbers r q) ++ joined (λ s. lineText stationLine (stationNumbers s)) row
 
--- a question and a row that a log can hold
+-- what a log can hold: numbers in range, an accepted question, few enough stations, no number twice, and a text that is not too long
 pub record Valid (r : Ranker) (q : Question) (row : List Station) : Type 0 where
   pub numbers : pass admits questionLine (questionNumbers r q) ≡ true
   pub stations : All (λ s. pass admits stationLine (stationNumbers s) ≡ true) row

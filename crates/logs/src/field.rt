@@ -47,6 +47,7 @@ const MOST_DIGITS: usize = 10;
 
 // The letters of the two rankings.
 pub(crate) const SUM_LETTER: u8 = b'S';
+
 const LARGEST_LETTER: u8 = b'W';
 
 // A number of 1 to 10 digits, with no 0 in front of another digit.

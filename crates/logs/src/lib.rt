@@ -4,6 +4,7 @@ mod law;
 mod line;
 mod log;
 mod token;
+
 pub use law::accepts_exactly_renderings;
 pub use log::Log;
 pub use log::MOST_BYTES;

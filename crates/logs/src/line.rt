@@ -1,17 +1,16 @@
 // Lines: found in the text, and read field by field.
 ghost use mathlib.Core.Path.{_≡_};
-ghost use mathlib.Core.List.{[], _∷_};
 ghost use mathlib.Core.Bool.{true};
-ghost use Prim.Native.Nat.{ℕ, _+_, _-_, _<_, _≤_};
-ghost use lib.ListN.{length, take, drop};
+ghost use Prim.Native.Nat.{_+_, _<_, _≤_};
+ghost use lib.ListN.{length, drop};
 ghost use Rattle.std.specs.Options.{Cases as BySome};
-ghost use Rattle.std.specs.Results.{Cases, isOk};
+ghost use Rattle.std.specs.Results.{isOk};
 ghost use Rattle.std.specs.declared.option.Option.the-variants.{Some, None};
 ghost use Rattle.stations.specs.declared.fault.Code.the-variants.{BadField, OutOfRange};
-ghost use Rattle.stations.specs.Faults.{verdict};
-ghost use Rattle.logs.specs.Pieces.{lineEnd, linesOf, fieldsOf};
+ghost use Rattle.stations.specs.Faults.{fault, verdict};
+ghost use Rattle.logs.specs.Pieces.{lineEnd, fieldsOf};
 ghost use Rattle.logs.specs.Tokens.{front};
-ghost use Rattle.logs.specs.Fields.{spells, reading, admits, paired};
+ghost use Rattle.logs.specs.Fields.{spells, admits};
 ghost use Rattle.logs.specs.Checks.{mostBytes, fieldFault, lineFault, numbersOf};
 ghost use Rattle.logs.specs.Lines.{Free, Found, Unended};
 use crate::field::FieldKind;
@@ -43,7 +42,11 @@ pub(crate) fn line_at<'a>(text: &'a [u8], start: usize) -> Option<Line<'a>>
                 at += 1;
             }
             Token::LineEnd(end) => {
-                return Some(Line { bytes: &text[start..end], fields: commas + 1, end });
+                return Some(Line {
+                    bytes: &text[start..end],
+                    fields: commas + 1,
+                    end,
+                });
             }
         }
     }
@@ -63,8 +66,25 @@ fn field_at<'a>(line: &'a [u8], at: usize) -> &'a [u8]
     }
 }
 
+// Why a field is refused. Its place in the row of kinds is from 0, and fields are counted from 1.
+fn field_fault(code: Code, line: u32, place: usize) -> Fault
+    requires { ⌜ place < 14 ⌝ }
+    ensures { λ r. ⌜ r ≡ fault code line (place + 1) ⌝ }
+{
+    Fault {
+        code,
+        first: line,
+        second: place as u32 + 1,
+    }
+}
+
 // Reads each field as its kind asks, into the place of the kind. The line has as many fields as there are kinds.
-fn read_fields(number: u32, line: &[u8], kinds: &[FieldKind], numbers: &mut [u64]) -> Result<(), Fault>
+fn read_fields(
+    number: u32,
+    line: &[u8],
+    kinds: &[FieldKind],
+    numbers: &mut [u64],
+) -> Result<(), Fault>
     requires short { ⌜ length (now line) ≤ mostBytes ⌝ }
     requires free { ⌜ Free lineEnd (now line) ⌝ }
     requires fields { ⌜ length (fieldsOf (now line)) ≡ length (now kinds) ⌝ }
@@ -78,7 +98,7 @@ fn read_fields(number: u32, line: &[u8], kinds: &[FieldKind], numbers: &mut [u64
         let field = field_at(line, at);
         match kinds[j].read(field) {
             Some(n) => numbers[j] = n,
-            None => return Err(Fault { code: Code::BadField, first: number, second: j as u32 + 1 }),
+            None => return Err(field_fault(Code::BadField, number, j)),
         }
         at += field.len() + 1;
     }
@@ -93,14 +113,19 @@ fn check_ranges(number: u32, kinds: &[FieldKind], numbers: &[u64]) -> Result<(),
 {
     for j in 0..kinds.len() {
         if !kinds[j].admits(numbers[j]) {
-            return Err(Fault { code: Code::OutOfRange, first: number, second: j as u32 + 1 });
+            return Err(field_fault(Code::OutOfRange, number, j));
         }
     }
     Ok(())
 }
 
 // Reads a line: how many fields, then how each is written, then what each says.
-pub(crate) fn read_line(number: u32, line: &Line, kinds: &[FieldKind], numbers: &mut [u64]) -> Result<(), Fault>
+pub(crate) fn read_line(
+    number: u32,
+    line: &Line,
+    kinds: &[FieldKind],
+    numbers: &mut [u64],
+) -> Result<(), Fault>
     requires short { ⌜ length (now line .bytes .now) ≤ mostBytes ⌝ }
     requires free { ⌜ Free lineEnd (now line .bytes .now) ⌝ }
     requires count { ⌜ now line .fields ≡ length (fieldsOf (now line .bytes .now)) ⌝ }
@@ -110,7 +135,11 @@ pub(crate) fn read_line(number: u32, line: &Line, kinds: &[FieldKind], numbers: 
     ensures after { λ r. ⌜ (isOk r ≡ true → now (numbers .exit) ≡ numbersOf (now (kinds .entry)) (now (line .entry) .bytes .now)) ⌝ }
 {
     if line.fields != kinds.len() {
-        return Err(Fault { code: Code::BadField, first: number, second: 0 });
+        return Err(Fault {
+            code: Code::BadField,
+            first: number,
+            second: 0,
+        });
     }
     read_fields(number, line.bytes, kinds, numbers)?;
     check_ranges(number, kinds, numbers)

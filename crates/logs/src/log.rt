@@ -71,7 +71,10 @@ fn station_of(numbers: &[u64]) -> Station
     requires admitted { ⌜ pass admits stationLine (now numbers) ≡ true ⌝ }
     ensures { λ r. ⌜ r ≡ stationOf (now (numbers .entry)) ⌝ }
 {
-    Station { number: numbers[0] as u32, at: measures_at(numbers, 1) }
+    Station {
+        number: numbers[0] as u32,
+        at: measures_at(numbers, 1),
+    }
 }
 
 fn question_of(numbers: &[u64]) -> Question
@@ -79,8 +82,14 @@ fn question_of(numbers: &[u64]) -> Question
     requires admitted { ⌜ pass admits questionLine (now numbers) ≡ true ⌝ }
     ensures { λ r. ⌜ r ≡ questionOf (now (numbers .entry)) ⌝ }
 {
-    let region = Region { low: measures_at(numbers, 2), high: measures_at(numbers, 6) };
-    Question { k: numbers[1] as u16, region }
+    let region = Region {
+        low: measures_at(numbers, 2),
+        high: measures_at(numbers, 6),
+    };
+    Question {
+        k: numbers[1] as u16,
+        region,
+    }
 }
 
 fn ranking_of(numbers: &[u64]) -> Ranker
@@ -108,13 +117,21 @@ fn read_question(text: &[u8]) -> Result<Heading, Fault>
     ensures { λ r. ⌜ Cases r (λ h. Headed (now (text .entry)) (h .ranking) (h .question) (h .next)) (λ f. linesFault (linesOf (now (text .entry))) ≡ Some f) ⌝ }
 {
     let Some(line) = line_at(text, 0) else {
-        return Err(Fault { code: Code::BadField, first: 1, second: 0 });
+        return Err(Fault {
+            code: Code::BadField,
+            first: 1,
+            second: 0,
+        });
     };
     let mut numbers = [0u64; 14];
     read_line(1, &line, &QUESTION_LINE, &mut numbers)?;
     let ranking = ranking_of(&numbers);
     let question = question_of(&numbers);
-    Ok(Heading { ranking, question, next: line.end + 1 })
+    Ok(Heading {
+        ranking,
+        question,
+        next: line.end + 1,
+    })
 }
 
 // Reads the line of a station.
@@ -148,10 +165,18 @@ fn read_stations(text: &[u8], start: usize, row: &mut [Station]) -> Result<usize
     while at < text.len() {
         let number = count as u32 + 2;
         if is_crowded(number) {
-            return Err(Fault { code: Code::TooManyStations, first: number, second: 0 });
+            return Err(Fault {
+                code: Code::TooManyStations,
+                first: number,
+                second: 0,
+            });
         }
         let Some(line) = line_at(text, at) else {
-            return Err(Fault { code: Code::BadField, first: number, second: 0 });
+            return Err(Fault {
+                code: Code::BadField,
+                first: number,
+                second: 0,
+            });
         };
         row[count] = read_station(number, &line)?;
         count += 1;
@@ -165,17 +190,37 @@ pub fn read_log(text: &[u8], row: &mut [Station]) -> Result<Log, Fault>
     ensures { λ r. ⌜ Cases r (Accepted (now (text .entry)) (now (row .entry)) (now (row .exit))) (Refused (now (text .entry)) (now (row .entry)) (now (row .exit))) ⌝ }
 {
     if text.len() > MOST_BYTES {
-        return Err(Fault { code: Code::TextTooLong, first: 0, second: 0 });
+        return Err(Fault {
+            code: Code::TextTooLong,
+            first: 0,
+            second: 0,
+        });
     }
     let heading = read_question(text)?;
-    let blank = Station { number: 0, at: Measures { m1: 0, m2: 0, m3: 0, m4: 0 } };
+    let blank = Station {
+        number: 0,
+        at: Measures {
+            m1: 0,
+            m2: 0,
+            m3: 0,
+            m4: 0,
+        },
+    };
     let mut read = [blank; MOST_STATIONS];
     let count = read_stations(text, heading.next, &mut read)?;
     check_row(&read[0..count])?;
     heading.question.check()?;
     if count > row.len() {
-        return Err(Fault { code: Code::ShortBuffer, first: 0, second: 0 });
+        return Err(Fault {
+            code: Code::ShortBuffer,
+            first: 0,
+            second: 0,
+        });
     }
     row[0..count].copy_from_slice(&read[0..count]);
-    Ok(Log { ranking: heading.ranking, question: heading.question, count })
+    Ok(Log {
+        ranking: heading.ranking,
+        question: heading.question,
+        count,
+    })
 }

@@ -24,7 +24,8 @@ module _ {text : List ℕ} {before after : List Station} {log : Log} (a : Accept
     row = take (log .count) after;
     valid = a .valid;
     shown = a .shown;
-    fits = a .valid .few }
+    fits = a .valid .few;
+  }
 
   module _ (was is : List ℕ) where
     printed : (r : Result ℕ Fault) → Printed (answerLines (log .ranking) (log .question) (take (log .count - 0) after)) was is r → Printed (answerLines (log .ranking) (log .question) (take (log .count) after)) was is r

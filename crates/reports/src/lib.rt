@@ -16,6 +16,7 @@ use stations::Measures;
 use stations::Station;
 
 mod outcome;
+
 pub use outcome::Report;
 
 const NOWHERE: Station = Station {

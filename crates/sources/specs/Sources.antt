@@ -1,6 +1,5 @@
 -- What a page source means, and what each read gives.
 use mathlib.Core.Path.{_≡_}
-use mathlib.Core.List.{List, [], map}
 use Prim.Native.Nat.{ℕ, _^_, _<_, _≤_}
 use lib.Dec.{ltb}
 use lib.ListN.{length, take}
@@ -10,16 +9,8 @@ use Rattle.std.specs.Orderings.{When}
 use Rattle.stations.specs.declared.fault.Fault.{Fault}
 use Rattle.stations.specs.declared.fault.Code.the-variants.{PageNumber, DeadPage}
 use Rattle.stations.specs.Faults.{fault}
-use Rattle.books.specs.declared.Entry.{Entry}
-use Rattle.books.specs.declared.Entry.the-variants as entries
-use Rattle.books.specs.Books.{Slot, dead, leaf, node, Book, slot, level, Lawful}
+use Rattle.books.specs.Books.{Slot, dead, leaf, node, Book, slot, level, entriesOn, Lawful}
 use Rattle.sources.specs.declared.page.Page.{Page}
-
--- the entries of a page, as a source gives them
-abbrev pub entriesOn : Slot → List Entry
-entriesOn dead = []
-entriesOn (leaf ss) = map entries.Station ss
-entriesOn (node l cs) = map entries.Page cs
 
 -- the page shows the live slot: its level, and its entries in order
 pub record Shows (s : Slot) (page : Page) : Type 0 where

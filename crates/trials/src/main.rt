@@ -2,13 +2,13 @@
 use rankings::Weights;
 use reports::Report;
 use reports::report;
-use std::error::AnyError;
-use std::io::Read;
-use std::io::Write;
 use stations::Fault;
 use stations::Measures;
 use stations::Station;
 use stations::check_row;
+use std::error::AnyError;
+use std::io::Read;
+use std::io::Write;
 
 // The length that the first line says, and where the log begins behind it.
 fn frame(input: &[u8]) -> Option<(usize, usize)> {
@@ -86,7 +86,15 @@ fn print_short(rt: &LibcRuntime) -> Result<(), AnyError> {
 }
 
 fn station(number: u32, m1: u16) -> Station {
-    Station { number, at: Measures { m1, m2: 0, m3: 0, m4: 0 } }
+    Station {
+        number,
+        at: Measures {
+            m1,
+            m2: 0,
+            m3: 0,
+            m4: 0,
+        },
+    }
 }
 
 fn print_verdict(rt: &LibcRuntime, verdict: Result<(), Fault>) -> Result<(), AnyError> {
@@ -123,7 +131,13 @@ fn print_rows(rt: &LibcRuntime) -> Result<(), AnyError> {
 
 // Weights given straight, at the largest and above it in each place.
 fn print_weights(rt: &LibcRuntime) -> Result<(), AnyError> {
-    for w in [(1000, 1000, 1000, 1000), (1001, 0, 0, 0), (0, 1001, 0, 0), (0, 0, 1001, 0), (0, 0, 0, 1001)] {
+    for w in [
+        (1000, 1000, 1000, 1000),
+        (1001, 0, 0, 0),
+        (0, 1001, 0, 0),
+        (0, 0, 1001, 0),
+        (0, 0, 0, 1001),
+    ] {
         let (w1, w2, w3, w4) = w;
         match Weights::new(w1, w2, w3, w4) {
             Ok(_) => println!(rt, "accepted")?,

@@ -1,7 +1,8 @@
-use mathlib.Core.Path.{_≡_, sym, _∙_, ap}
+use mathlib.Core.Path.{sym, _∙_, ap}
 use Prim.Native.Nat.{_<_}
 use native.Mathlib.Omega.{arith}
 use lib.ListN.{length}
+use Rattle.std.specs.declared.result.Result.the-variants.{Err}
 use Rattle.stations.specs.declared.fault.Code.the-variants.{OutOfRange}
 use Rattle.stations.specs.Faults.{verdict}
 use Rattle.logs.specs.Fields.{admits}
@@ -12,7 +13,7 @@ pub returns-then-not-admits : need.returns-then-not-admits
 returns-then-not-admits c =
     let within : c .loop-j .j < length (c .args .numbers .now) = omega arith in
     let e = left-fail admits OutOfRange (c .args .number) (c .args .kinds .now) (c .args .numbers .now) (c .loop-j .j) 0 (c .loop-j-test .taken) within (sym (c .if-not-admits .ensures tt)) in
-    ap verdict (sym e ∙ c .loop-j .inv)
+    ap Err (c .field-fault .ensures) ∙ ap verdict (sym e ∙ c .loop-j .inv)
 
 pub loop-j-again : need.loop-j-again
 loop-j-again c =

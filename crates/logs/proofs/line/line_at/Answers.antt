@@ -1,7 +1,6 @@
-use mathlib.Core.Path.{_≡_, subst, sym}
-use Prim.Native.Nat.{ℕ, _-_, _+_, _<_, _≤_}
+use mathlib.Core.Path.{subst, sym}
+use Prim.Native.Nat.{ℕ, _+_}
 use native.Mathlib.Omega.{arith}
-use lib.ListN.{length}
 use Rattle.std.specs.Holes.{between}
 use Rattle.logs.specs.Tokens.{Reads}
 use Rattle.logs.specs.Lines.{Found}

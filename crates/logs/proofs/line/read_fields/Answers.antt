@@ -1,7 +1,6 @@
-use mathlib.Core.Path.{_≡_, sym, _∙_, ap}
-use Prim.Native.Nat.{_<_}
-use native.Mathlib.Omega.{arith}
-use lib.ListN.{length, getD, drop}
+use mathlib.Core.Path.{sym, _∙_, ap}
+use lib.ListN.{getD}
+use Rattle.std.specs.declared.result.Result.the-variants.{Err}
 use Rattle.std.proofs.shelf.Tests.{false≢true}
 use Rattle.stations.specs.Faults.{verdict}
 use Rattle.logs.specs.Fields.{spells}
@@ -14,7 +13,7 @@ returns-in-None c =
     let k = getD (c .args .kinds .now) (c .loop-j .j) Letter in
     let e = ap (spells k) (sym (c .field-at-field .ensures)) ∙ unspelled k (c .field-at-field .result .now) (c .in-None .ensures tt) in
     let fail = going-fail (c .args .number) (c .args .line .now) (c .args .kinds .now) (c .loop-j .numbers) (c .loop-j .j) (c .loop-j .«at») (c .pre .free) (c .pre .fields) (c .loop-j-test .taken) (c .loop-j .inv) e in
-    record { value = ap verdict (sym fail); after = λ h. absurd (false≢true h) }
+    record { value = ap Err (c .field-fault .ensures) ∙ ap verdict (sym fail); after = λ h. absurd (false≢true h) }
 
 pub loop-j-again : need.loop-j-again
 loop-j-again c =

@@ -1,18 +1,17 @@
 use mathlib.Core.Path.{_≡_, refl, sym, _∙_, ap, subst}
 use mathlib.Core.Bool.{true, false}
 use mathlib.Core.List.{List, _++_}
-use Prim.Native.Nat.{ℕ, _-_, _<_, _≤_}
+use Prim.Native.Nat.{ℕ, _-_, _≤_}
 use native.Mathlib.Nat.{sub-zero}
-use native.Mathlib.Omega.{arith}
 use lib.Dec.{ltb}
 use lib.ListN.{length, take, drop}
-use Rattle.std.specs.declared.option.Option.the-variants.{Some, None}
+use Rattle.std.specs.declared.option.Option.the-variants.{None}
 use Rattle.std.proofs.shelf.Lists.{take-at, drop-at}
 use Rattle.std.proofs.shelf.Results.{err-from-errBy}
 use Rattle.std.proofs.shelf.Tests.{lt-ltb, le-ltb}
 use Rattle.stations.specs.declared.fault.Code.the-variants.{ShortBuffer}
 use Rattle.stations.specs.declared.station.Station.{Station}
-use Rattle.stations.specs.Faults.{placeless, refuseIf, orElse}
+use Rattle.stations.specs.Faults.{placeless, refuseIf}
 use Rattle.stations.specs.Rows.{rowFault}
 use Rattle.stations.specs.Questions.{questionFault}
 use Rattle.logs.specs.Rendering.{rendering, Valid}
@@ -68,7 +67,8 @@ returns-then-count-row c =
     let t : ltb room count ≡ true = lt-ltb room count (c .if-count-row .taken) in
     record {
       refused = after ∙ after-none (rowFault (take count local)) _ rows ∙ after-none (questionFault (h .question)) _ asked ∙ ap (λ x. refuseIf x (placeless ShortBuffer)) t;
-      kept = refl }
+      kept = refl;
+    }
 
 pub returns : need.returns
 returns c =
@@ -92,4 +92,5 @@ returns c =
       shown = shown-is text (h .ranking) (h .question) (h .next) local count short head filled ∙ ap (rendering (h .ranking) (h .question)) (sym first);
       valid = subst (Valid (h .ranking) (h .question)) (sym first) (valid-is text (h .ranking) (h .question) (h .next) local count short head filled rows asked);
       fits = c .if-count-row .left;
-      rest = drop-at _ _ count long ∙ ap (λ n. drop n (c .args .row .now)) (sub-zero count) }
+      rest = drop-at _ _ count long ∙ ap (λ n. drop n (c .args .row .now)) (sub-zero count);
+    }

@@ -1,12 +1,9 @@
-use mathlib.Core.Path.{_≡_, refl, sym, _∙_, ap, subst}
+use mathlib.Core.Path.{_≡_, refl, _∙_, ap}
 use mathlib.Core.Bool.{true}
-use lib.ListN.{length}
 use Rattle.std.proofs.shelf.Results.{err-from-errBy}
-use Rattle.std.specs.declared.option.Option.the-variants.{None}
-use Rattle.logs.specs.Fields.{stationLine, reading, admits, pass}
-use Rattle.logs.specs.Pieces.{fieldsOf}
+use Rattle.logs.specs.Fields.{stationLine}
 use Rattle.logs.specs.Checks.{lineFault, numbersOf, stationOf}
-use Rattle.logs.proofs.Verdicts.{verdict-ok, verdict-err, fine-from, length-paired}
+use Rattle.logs.proofs.Verdicts.{verdict-ok, verdict-err, fine-numbers}
 use Rattle.logs.proofs.log.read_station.Needs as need
 
 pub returns-in-Break-read-line : need.returns-in-Break-read-line
@@ -17,14 +14,13 @@ returns-in-Break-read-line c =
 pub station-of-requires : need.station-of-requires
 station-of-requires c κs =
     let bytes = c .args .line .now .bytes .now in
-    let fine = fine-from (c .args .number) stationLine bytes (verdict-ok (lineFault (c .args .number) stationLine bytes) (c .in-Continue-read-line .ensures tt .value)) in
-    let is : c .read-line .last .numbers ≡ numbersOf stationLine bytes = c .in-Continue-read-line .ensures tt .after (refl {a = true}) in
-    record {
-      long = ap length is ∙ length-paired reading stationLine (fieldsOf bytes) (fine .count);
-      admitted = ap (pass admits stationLine) is ∙ fine .admitted }
+    let none = verdict-ok (lineFault (c .args .number) stationLine bytes) (c .in-Continue-read-line .ensures tt .value) in
+    let fine = fine-numbers (c .args .number) stationLine bytes (c .read-line .last .numbers) none (c .in-Continue-read-line .ensures tt .after (refl {a = true})) in
+    record { long = fine .0; admitted = fine .1 }
 
 pub returns : need.returns
 returns c =
     let bytes = c .args .line .now .bytes .now in
     let none = verdict-ok (lineFault (c .args .number) stationLine bytes) (c .in-Continue-read-line .ensures tt .value) in
-    (none, c .station-of .ensures ∙ ap stationOf (c .in-Continue-read-line .ensures tt .after (refl {a = true})))
+    let is : c .read-line .last .numbers ≡ numbersOf stationLine bytes = c .in-Continue-read-line .ensures tt .after (refl {a = true}) in
+    (none, c .station-of .ensures ∙ ap stationOf {y = numbersOf stationLine bytes} is)

@@ -1,5 +1,5 @@
-use mathlib.Core.Path.{_≡_, refl, sym, _∙_, ap}
-use Prim.Native.Nat.{_<_, _≤_}
+use mathlib.Core.Path.{sym, ap}
+use Prim.Native.Nat.{_<_}
 use native.Mathlib.Omega.{arith}
 use lib.ListN.{length}
 use Rattle.std.proofs.shelf.Results.{err-from-errBy}
@@ -29,13 +29,13 @@ returns-in-Break-row c =
     let p = err-from-errBy (c .from-residual .result) (c .from-residual .ensures .1) in
     let room : c .loop-at .count < mostStations = omega (arith, ltb-false _ _ (sym (c .if-is-crowded .ensures tt))) in
     rw (p .1, p .2) (going-refused (c .args .text .now) (c .args .start) (c .loop-at .row) (c .loop-at .«at») (c .loop-at .count) (c .loop-at .inv) (c .loop-at-test .taken) room
-      (c .in-Some .line .bytes .now) (c .in-Some .line .fields) (c .in-Some .line .end) (c .in-Some .ensures tt) _ (c .in-Break-row .ensures tt))
+    (c .in-Some .line .bytes .now) (c .in-Some .line .fields) (c .in-Some .line .end) (c .in-Some .ensures tt) _ (c .in-Break-row .ensures tt))
 
 pub loop-at-again : need.loop-at-again
 loop-at-again c =
     let room : c .loop-at .count < mostStations = omega (arith, ltb-false _ _ (sym (c .if-is-crowded .ensures tt))) in
     going-more (c .args .text .now) (c .args .start) (c .loop-at .row) (c .loop-at .«at») (c .loop-at .count) (c .loop-at .inv) (c .loop-at-test .taken) room
-      (c .in-Some .line .bytes .now) (c .in-Some .line .fields) (c .in-Some .line .end) (c .in-Some .ensures tt) (c .in-Continue-row .field-0) (c .in-Continue-row .ensures tt .0) (c .in-Continue-row .ensures tt .1)
+    (c .in-Some .line .bytes .now) (c .in-Some .line .fields) (c .in-Some .line .end) (c .in-Some .ensures tt) (c .in-Continue-row .field-0) (c .in-Continue-row .ensures tt .0) (c .in-Continue-row .ensures tt .1)
 
 pub returns : need.returns
 returns c = going-all (c .args .text .now) (c .args .start) (c .loop-at .row) (c .loop-at .«at») (c .loop-at .count) (c .loop-at .inv) (c .loop-at-test .left)
