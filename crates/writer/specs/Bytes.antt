@@ -8,8 +8,7 @@ use Rattle.stations.specs.declared.station.Station.{Station}
 use Rattle.books.specs.declared.Child.{Child}
 use Rattle.books.specs.declared.Entry.{Entry}
 use Rattle.books.specs.declared.Entry.the-variants as entries
-use Rattle.books.specs.Books.{Slot, Book, level}
-use Rattle.sources.specs.Sources.{entriesOn}
+use Rattle.books.specs.Books.{Slot, Book, level, entriesOn}
 
 -- a number in two bytes
 abbrev pub shortBytes : ℕ → List ℕ

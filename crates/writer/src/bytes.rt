@@ -69,3 +69,36 @@ fn put_child(bytes: &mut [u8], at: usize, child: Child) -> usize
     put_measures(bytes, at + 10, child.bounds.high);
     at + 18
 }
+
+fn put_entry(bytes: &mut [u8], at: usize, entry: Entry) -> usize
+    requires { ⌜ «at» + 18 ≤ length (now bytes) ⌝ }
+    ensures end { λ r. ⌜ r ≡ «at» + length (entryBytes entry) ⌝ }
+    ensures put { λ _. ⌜ now (bytes .exit) ≡ paste (now (bytes .entry)) «at» (entryBytes entry) (length (entryBytes entry)) ⌝ }
+{
+    match entry {
+        Entry::Page(child) => put_child(bytes, at, child),
+        Entry::Station(station) => put_station(bytes, at, station),
+    }
+}
+
+// Puts the entries of a page one after the other.
+fn put_entries(bytes: &mut [u8], entries: &[Entry])
+    requires { ⌜ length (now bytes) ≡ 256 ⌝ ∗ ⌜ length (now entries) ≤ 12 ⌝ }
+    ensures { λ _. ⌜ now (bytes .exit) ≡ paste (now (bytes .entry)) 8 (joined entryBytes (now (entries .entry))) (length (joined entryBytes (now (entries .entry)))) ⌝ }
+{
+    let mut at = ENTRIES;
+    for entry in entries {
+        at = put_entry(bytes, at, *entry);
+    }
+}
+
+// The page in bytes; those that no entry takes are 0.
+pub(crate) fn encode(page: Page) -> [u8; PAGE]
+    ensures { λ r. ⌜ r ≡ pageWith (page .level) (take (page .len) (page .entries)) ⌝ }
+{
+    let mut bytes = [0; PAGE];
+    bytes[LEVEL] = page.level;
+    bytes[COUNT] = page.len as u8;
+    put_entries(&mut bytes, &page.entries[0..page.len]);
+    bytes
+}
