@@ -1,3 +1,6 @@
 pub mod Puts
 pub mod Spelling
 pub mod Books
+pub mod Sorting
+pub mod Rows
+pub mod Keyed
