@@ -4,3 +4,5 @@ pub mod Books
 pub mod Sorting
 pub mod Rows
 pub mod Keyed
+pub mod Heaps
+pub mod Pages
