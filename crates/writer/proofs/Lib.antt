@@ -6,3 +6,4 @@ pub mod Rows
 pub mod Keyed
 pub mod Heaps
 pub mod Pages
+pub mod Writes
