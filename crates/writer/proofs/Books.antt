@@ -109,11 +109,11 @@ walked p notes (s ∷ ss) fits after inside reached =
     let here : slotAt notes p (slotBytes s) ≡ s = at-page in
     ap (λ t. t ∷ slotsFrom (p + 1) (notesAfter notes t) (map slotBytes ss)) here
     ∙ ap (λ rest. s ∷ rest) (walked (p + 1) (notesAfter notes s) ss (fits .1) (after .1)
-      (all-weaker (λ (c : Child). c .page < length notes) (λ (c : Child). c .page < length (notesAfter notes s)) (λ c k. let same = noted-length (level s) notes (childrenOn s) in omega arith) (named ss) (all-back (λ (c : Child). c .page < length notes) (childrenOn s) (named ss) inside))
-      (λ i q e below other.
-        let h = reached (suc i) q (omega arith) (omega arith) other in
-        let d = count-append (names q) (childrenOn s) (named ss) in
-        next q (omega arith)))
+    (all-weaker (λ (c : Child). c .page < length notes) (λ (c : Child). c .page < length (notesAfter notes s)) (λ c k. let same = noted-length (level s) notes (childrenOn s) in omega arith) (named ss) (all-back (λ (c : Child). c .page < length notes) (childrenOn s) (named ss) inside))
+    (λ i q e below other.
+    let h = reached (suc i) q (omega arith) (omega arith) other in
+    let d = count-append (names q) (childrenOn s) (named ss) in
+    next q (omega arith)))
   where
     counts : (p ≡ 0) ⊎ (p ≡ 0 → ⊥) → (eqb p 0 || isNamed notes p) ≡ true
     counts (inl top) = or-left _ _ (eq-eqb p 0 top)
@@ -159,10 +159,10 @@ module _ (b : Book) (fits : All SlotFits b) where
       let mapped = length-map b slotBytes in
       same-lists (pagesIn (bookBytes b)) (map slotBytes b) (counted ∙ many ∙ sym mapped)
       (λ k d h.
-        let below : k < pageCount (bookBytes b) = omega arith in
-        let inside : k < length b = omega arith in
-        let same : 0 + k ≡ k = omega arith in
-        getD-map-counting (pageBytes (bookBytes b)) 0 (pageCount (bookBytes b)) k k d below same ∙ page-back k dead inside ∙ sym (getD-map slotBytes b k dead d inside))
+      let below : k < pageCount (bookBytes b) = omega arith in
+      let inside : k < length b = omega arith in
+      let same : 0 + k ≡ k = omega arith in
+      getD-map-counting (pageBytes (bookBytes b)) 0 (pageCount (bookBytes b)) k k d below same ∙ page-back k dead inside ∙ sym (getD-map slotBytes b k dead d inside))
 
 module _ (b : Book) (lawful : Lawful b) (alive : (p : ℕ) → p < length b → IsLive (slot b p)) (numbers : All (λ s. s .number < 2 ^ 32) (stations b)) (few : length b ≤ 256) (some : 1 ≤ length b) where
   fits-at : (p : ℕ) → p < length b → SlotFits (slot b p)
@@ -172,7 +172,7 @@ module _ (b : Book) (lawful : Lawful b) (alive : (p : ℕ) → p < length b → 
     sizes = lawful .sizes p;
     stations = both-all (λ (s : Station). s .number < 2 ^ 32) (λ (s : Station). Ordinary (s .at)) StationFits (λ s n m. record { number = n; measures = m }) (stationsOn (slot b p)) (parts-of _ stationsOn b p h numbers) (parts-of _ stationsOn b p h (lawful .measures));
     children = both-all (λ (c : Child). (p < c .page) × (c .page < length b)) (λ (c : Child). (Ordinary (c .bounds .low)) × (Ordinary (c .bounds .high))) ChildFits (λ c n m. record { page = (let k = n .1 in omega arith); low = m .0; high = m .1 }) (childrenOn (slot b p)) (lawful .after p)
-      (parts-of _ childrenOn b p h (both-all (λ (c : Child). (c .bounds .low) ≼ (c .bounds .high)) (λ (c : Child). Ordinary (c .bounds .high)) (λ (c : Child). (Ordinary (c .bounds .low)) × (Ordinary (c .bounds .high))) (λ c k o. (below-ordinary (c .bounds .low) (c .bounds .high) k o, o)) (named b) (lawful .ordered) (lawful .boxes)));
+        (parts-of _ childrenOn b p h (both-all (λ (c : Child). (c .bounds .low) ≼ (c .bounds .high)) (λ (c : Child). Ordinary (c .bounds .high)) (λ (c : Child). (Ordinary (c .bounds .low)) × (Ordinary (c .bounds .high))) (λ c k o. (below-ordinary (c .bounds .low) (c .bounds .high) k o, o)) (named b) (lawful .ordered) (lawful .boxes)));
   }
 
   all-fit : All SlotFits b
@@ -192,9 +192,9 @@ module _ (b : Book) (lawful : Lawful b) (alive : (p : ℕ) → p < length b → 
   book-back =
       ap (slotsFrom 0 noNotes) (pages-back b all-fit)
       ∙ walked 0 noNotes b all-fit
-        (after-all 0 b (λ i q e. let same : i ≡ q = omega arith in all-weaker (λ (c : Child). (q < c .page) × (c .page < length b)) (λ (c : Child). q < c .page) (λ c k. k .0) (childrenOn (slot b i)) (subst (λ j. All (λ (c : Child). (q < c .page) × (c .page < length b)) (childrenOn (slot b j))) (sym same) (lawful .after q))))
-        (all-weaker (λ (c : Child). c .page < length b) (λ (c : Child). c .page < length noNotes) (λ c k. omega arith) (named b) (named-inside b (λ i. all-weaker (λ (c : Child). (i < c .page) × (c .page < length b)) (λ (c : Child). c .page < length b) (λ c k. k .1) (childrenOn (slot b i)) (lawful .after i))))
-        (λ i q e below other. let same : i ≡ q = omega arith in let h = lawful .reached q (alive q (omega arith)) other in omega arith)
+      (after-all 0 b (λ i q e. let same : i ≡ q = omega arith in all-weaker (λ (c : Child). (q < c .page) × (c .page < length b)) (λ (c : Child). q < c .page) (λ c k. k .0) (childrenOn (slot b i)) (subst (λ j. All (λ (c : Child). (q < c .page) × (c .page < length b)) (childrenOn (slot b j))) (sym same) (lawful .after q))))
+      (all-weaker (λ (c : Child). c .page < length b) (λ (c : Child). c .page < length noNotes) (λ c k. omega arith) (named b) (named-inside b (λ i. all-weaker (λ (c : Child). (i < c .page) × (c .page < length b)) (λ (c : Child). c .page < length b) (λ c k. k .1) (childrenOn (slot b i)) (lawful .after i))))
+      (λ i q e below other. let same : i ≡ q = omega arith in let h = lawful .reached q (alive q (omega arith)) other in omega arith)
 
   pub book-sound : Sound (bookBytes b)
   book-sound =

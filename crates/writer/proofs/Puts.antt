@@ -36,11 +36,13 @@ module _ (es : List Entry) (i : ℕ) (e : Entry) (h : i < length es) (is : e ≡
       → (r ≤ 8 + 18 * (i + 1)) × (r ≡ 8 + length (joined entryBytes (take (i + 1) es))) × (d₂ ≡ paste d 8 (joined entryBytes (take (i + 1) es)) (length (joined entryBytes (take (i + 1) es))))
   put-more d d₁ d₂ k r room low at done next put =
       let short = entry-short e in
-      let more = ap length one-more ∙ length-append (joined entryBytes (take i es)) (entryBytes e) in
-      (omega arith, omega arith,
+      let more = ap length one-more ∙ length-append (joined entryBytes (take i es)) (entryBytes e) in (
+        omega arith,
+        omega arith,
         put-next d d₁ d₂ 8 k (joined entryBytes (take i es)) (entryBytes e) _ _ done put at refl refl room
-        ∙ ap (λ n. paste d 8 (joined entryBytes (take i es) ++ entryBytes e) n) (sym more)
-        ∙ ap (λ x. paste d 8 x (length (joined entryBytes (take (i + 1) es)))) (sym one-more))
+            ∙ ap (λ n. paste d 8 (joined entryBytes (take i es) ++ entryBytes e) n) (sym more)
+            ∙ ap (λ x. paste d 8 x (length (joined entryBytes (take (i + 1) es)))) (sym one-more),
+      )
 
 -- a page of zeros with a level, a count and entries
 pub encoded : (l n : ℕ) (bytes : List ℕ) → paste (l ∷ n ∷ replicate 254 0) 8 bytes (length bytes) ≡ filled (l ∷ n ∷ 0 ∷ 0 ∷ 0 ∷ 0 ∷ 0 ∷ 0 ∷ bytes)

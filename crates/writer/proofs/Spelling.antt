@@ -64,12 +64,12 @@ module _ {X : Type 0} (f : X → List ℕ) (w : ℕ) where
         same-lists (map (λ i. at′ bytes (8 + w * i)) (counting 0 n)) xs
         (length-map-counting (λ i. at′ bytes (8 + w * i)) 0 n ∙ m)
         (λ k d h.
-          let counted = length-map-counting (λ i. at′ bytes (8 + w * i)) 0 n in
-          let below : k < n = omega arith in
-          let inside : k < length xs = omega arith in
-          let same : 0 + k ≡ k = omega arith in
-          getD-map-counting (λ i. at′ bytes (8 + w * i)) 0 n k k d below same
-          ∙ reads bytes (8 + w * k) (getD xs k d) (joined f (drop (k + 1) xs) ++ z) (sym (drop-drop (w * k) 8 bytes) ∙ ap (drop (w * k)) e ∙ from-joined k xs d z (all-even xs) inside) (all-getD Fine xs k d inside fine))
+        let counted = length-map-counting (λ i. at′ bytes (8 + w * i)) 0 n in
+        let below : k < n = omega arith in
+        let inside : k < length xs = omega arith in
+        let same : 0 + k ≡ k = omega arith in
+        getD-map-counting (λ i. at′ bytes (8 + w * i)) 0 n k k d below same
+        ∙ reads bytes (8 + w * k) (getD xs k d) (joined f (drop (k + 1) xs) ++ z) (sym (drop-drop (w * k) 8 bytes) ∙ ap (drop (w * k)) e ∙ from-joined k xs d z (all-even xs) inside) (all-getD Fine xs k d inside fine))
 
 -- numbers that are read where they were put
 back : (x : ℕ) → x < 2 ^ 16 → x / 256 % 256 % 256 * 256 + x % 256 % 256 ≡ x

@@ -60,11 +60,7 @@ fn write_pages(row: &[Station], book: &mut [u8]) -> Result<(), Fault>
 }
 
 // Writes the book of the row in code order, and answers how many bytes it has. The bytes that no entry takes are 0.
-pub fn write_book(
-    row: &[Station],
-    work: &mut [CodeKey],
-    book: &mut [u8],
-) -> Result<usize, Fault>
+pub fn write_book(row: &[Station], work: &mut [CodeKey], book: &mut [u8]) -> Result<usize, Fault>
     ensures { λ r. ⌜ Writes (now (row .entry)) (now (work .entry)) (now (work .exit)) (now (book .entry)) (now (book .exit)) r ⌝ }
 {
     let pages = count_pages(row)?;

@@ -27,10 +27,10 @@ returns-then-work-row c =
     let counted = c .in-Continue-pages .ensures tt in
     let many = counted .1 in
     let short : (length (c .args .work .now) < length row) ⊎ (length (c .args .book .now) < 256 * length (rollBook row)) =
-      elim (c .then-work-row .came) [
-        then-work-row·by·then-work-row w ↦ inl (w .if-work-row .taken)
+    elim (c .then-work-row .came) [
+      | then-work-row·by·then-work-row w ↦ inl (w .if-work-row .taken)
       | then-work-row·by·else-work-row·then-book-pages w ↦ inr (let k = w .if-book-pages .taken in omega arith)
-      ] in
+    ] in
     (short-refused row (length (c .args .work .now)) (length (c .args .book .now)) (counted .0) short, refl, refl)
 
 pub write-pages-requires : need.write-pages-requires
@@ -55,6 +55,7 @@ returns c =
     let order : sorted ≡ codeOrder row = ap (λ n. take n (c .sort-by-code .last .sorted)) all ∙ c .sort-by-code .ensures .order in
     let fine = storable row (counted .0) (c .sort-by-code .ensures .numbers) (c .sort-by-code .ensures .measures) in
     let places : length row ≤ length (c .args .work .now) = c .if-work-row .left in
-    let bytes : 256 * length (rollBook row) ≤ length (c .args .book .now) = omega arith in
-    (none-refused row (length (c .args .work .now)) (length (c .args .book .now)) (counted .0) places bytes,
-      written row sorted (c .args .work .now) (c .sort-by-code .last .work) (c .args .book .now) (c .write-pages .last .book) (c .in-Continue-pages .pages) fine order many (c .write-pages .ensures .bytes) (c .write-pages .ensures .after) (c .sort-by-code .ensures .kept))
+    let bytes : 256 * length (rollBook row) ≤ length (c .args .book .now) = omega arith in (
+      none-refused row (length (c .args .work .now)) (length (c .args .book .now)) (counted .0) places bytes,
+      written row sorted (c .args .work .now) (c .sort-by-code .last .work) (c .args .book .now) (c .write-pages .last .book) (c .in-Continue-pages .pages) fine order many (c .write-pages .ensures .bytes) (c .write-pages .ensures .after) (c .sort-by-code .ensures .kept),
+    )

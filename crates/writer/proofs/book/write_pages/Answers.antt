@@ -43,10 +43,11 @@ loop-p-again c =
     let bytes = c .copy-from-slice .ensures .after ∙ c .encode-page .ensures ∙ shown-bytes (slot (bookOf (c .loop-p .roll)) p) (c .in-Continue-read .field-0) seen ∙ ap (λ x. slotBytes (slot x p)) (c .loop-p .inv .0) in
     let full = ap length bytes ∙ slot-length (slot b p) (roll-laws .lawful (c .load .last .self) .sizes p) in
     let part : 256 * p + 256 - 256 * p ≡ 256 = omega arith in
-    let room : 256 * length b ≤ length (c .loop-p .book) = omega arith in
-    (c .read .ensures .same ∙ c .loop-p .inv .0,
+    let room : 256 * length b ≤ length (c .loop-p .book) = omega arith in (
+      c .read .ensures .same ∙ c .loop-p .inv .0,
       page-more b p below (c .args .book .now) (c .loop-p .book) (c .copy-from-slice .last .self) _ bytes full part room (c .loop-p .inv .1),
-      rest-more b p below (c .args .book .now) (c .loop-p .book) (c .copy-from-slice .last .self) _ bytes full part room (c .loop-p .inv .2))
+      rest-more b p below (c .args .book .now) (c .loop-p .book) (c .copy-from-slice .last .self) _ bytes full part room (c .loop-p .inv .2),
+    )
 
 pub returns : need.returns
 returns c =

@@ -23,7 +23,7 @@ returns c =
     record {
       end = refl;
       put =
-        put-next d _ _ i _ (shortBytes (n % 65536) ++ lows) highs 10 8 two (c .put-measures-2 .ensures) refl refl refl room
-        ∙ ap (λ x. paste d i ((x ∷ n % 65536 % 256 ∷ []) ++ lows ++ highs) 18) low
-        ∙ ap (λ x. paste d i ((n / 256 % 256 ∷ x ∷ []) ++ lows ++ highs) 18) last;
+          put-next d _ _ i _ (shortBytes (n % 65536) ++ lows) highs 10 8 two (c .put-measures-2 .ensures) refl refl refl room
+          ∙ ap (λ x. paste d i ((x ∷ n % 65536 % 256 ∷ []) ++ lows ++ highs) 18) low
+          ∙ ap (λ x. paste d i ((n / 256 % 256 ∷ x ∷ []) ++ lows ++ highs) 18) last;
     }
