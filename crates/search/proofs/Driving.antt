@@ -31,7 +31,6 @@ use Rattle.search.proofs.Filling.{listing-length}
 use Rattle.search.proofs.Producing.{handed-more}
 
 module _ (rank : Measures → ℕ) (b : Book) where
-
   none-push : {A P : Type 0} (xs : List A) (x : A) → [] ≡ xs ++ x ∷ [] → P
   none-push xs x h = absurd (omega (arith, ap length h, length-push xs x))
 
@@ -98,8 +97,8 @@ module _ {S R : Type 0} (book : S → Book) (meter : S → ℕ) (score : R → M
       produces = then-next;
       ends = ends;
       promised = λ question n is.
-        let k = every-history rank mono b lawful limits (h ++ (g .events ++ nexted reply ∷ [])) question n (subst (History rank b limits (h ++ (g .events ++ nexted reply ∷ []))) is (then-next .history)) in
-        (k .0, subst (Promised (bands rank question) b limits n) (sym (then-next .listed-is)) (k .1));
+          let k = every-history rank mono b lawful limits (h ++ (g .events ++ nexted reply ∷ [])) question n (subst (History rank b limits (h ++ (g .events ++ nexted reply ∷ []))) is (then-next .history)) in
+          (k .0, subst (Promised (bands rank question) b limits n) (sym (then-next .listed-is)) (k .1));
     }
 
   pub driven-err : Monotone rank → Lawful b → (before i : ℕ) (r r′ : Run S R) (g : Handing before i r) (f : Fault) → Produces book meter score rank b ((h ++ g .events) ++ nexted (Err f) ∷ []) (afterNext (g .stands)) m r′ → Driven book meter score rank b h m (Err f) r′

@@ -7,3 +7,4 @@ pub mod Runs
 pub mod Producing
 pub mod Playing
 pub mod Driving
+pub mod Halting

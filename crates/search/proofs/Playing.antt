@@ -35,8 +35,8 @@ module _ {S R : Type 0} (book : S → Book) (meter : S → ℕ) (score : R → M
   played mono lawful calls r made = record {
     made = made;
     promised = λ question n e.
-      let k = every-history rank mono b lawful limits (made .history) question n (subst (Rattle.promises.specs.Histories.History rank b limits (made .history)) e (made .produces .history)) in
-      (k .0, subst (Promised (bands rank question) b limits n) (sym (made .produces .listed-is)) (k .1));
+        let k = every-history rank mono b lawful limits (made .history) question n (subst (Rattle.promises.specs.Histories.History rank b limits (made .history)) e (made .produces .history)) in
+        (k .0, subst (Promised (bands rank question) b limits n) (sym (made .produces .listed-is)) (k .1));
   }
 
 -- the ranking and the source that a run was made with

@@ -209,8 +209,8 @@ module _ {S R : Type 0} (book : S → Book) (meter : S → ℕ) (score : R → M
       let going = a .goes (is-searching (phase q b limits n) (sym (a .phase-is) ∙ e)) in
       let same : queryOf score r ≡ q = ap (λ x. bands x (r .question)) (p .ranking-is) ∙ ap (bands rank) (a .question-is) in
       let says : Goes q b (held (r .waiting)) (listing (r .listed)) (r .opened) → Gave q b (listing (r .listed)) reply (held (r′ .waiting)) (listing (r′ .listed)) (r′ .opened) =
-        subst (λ x. Goes x b (held (r .waiting)) (listing (r .listed)) (r .opened) → Gave x b (listing (r .listed)) reply (held (r′ .waiting)) (listing (r′ .listed)) (r′ .opened)) same
-        (subst (λ x. Goes (queryOf score r) x (held (r .waiting)) (listing (r .listed)) (r .opened) → Gave (queryOf score r) x (listing (r .listed)) reply (held (r′ .waiting)) (listing (r′ .listed)) (r′ .opened)) (p .source-is) gives) in
+      subst (λ x. Goes x b (held (r .waiting)) (listing (r .listed)) (r .opened) → Gave x b (listing (r .listed)) reply (held (r′ .waiting)) (listing (r′ .listed)) (r′ .opened)) same
+      (subst (λ x. Goes (queryOf score r) x (held (r .waiting)) (listing (r .listed)) (r .opened) → Gave (queryOf score r) x (listing (r .listed)) reply (held (r′ .waiting)) (listing (r′ .listed)) (r′ .opened)) (p .source-is) gives) in
       let g = says (going .1) in
       let is : reply ≡ next q b limits n = g .gives ∙ ap (next q b limits) (going .0) in
       record {

@@ -68,9 +68,9 @@ module _ {S R : Type 0} (book : S → Book) (pages meter : S → ℕ) (score : R
 
   module _ (r r′ r″ : Run S R) (kept : Kept book pages meter r r′) (come : Come r r′) (reply : Option Reply)
       (turned : (u : Bound) → At (queryOf score r′) (book (r′ .source)) u (held (r′ .waiting)) (listing (r′ .listed)) (r′ .opened) → Turned (queryOf score r′) (book (r′ .source)) (listing (r′ .listed)) reply (held (r″ .waiting)) (listing (r″ .listed)) (r″ .opened))
-      where
-    pub turned-on : (u : Bound) → At (queryOf score r) (book (r .source)) u (held (r .waiting)) (listing (r .listed)) (r .opened) → Turned (queryOf score r) (book (r .source)) (listing (r′ .listed)) reply (held (r″ .waiting)) (listing (r″ .listed)) (r″ .opened)
-    turned-on u h = let i = come u h in turned-moved (queryOf score r′) (queryOf score r) (book (r′ .source)) (book (r .source)) (held (r′ .waiting)) (listing (r′ .listed)) (r′ .opened) reply (held (r″ .waiting)) (listing (r″ .listed)) (r″ .opened) (same-query r r′ kept) (kept .source .same) turned (i .1 .0) (i .1 .1)
+    where
+      pub turned-on : (u : Bound) → At (queryOf score r) (book (r .source)) u (held (r .waiting)) (listing (r .listed)) (r .opened) → Turned (queryOf score r) (book (r .source)) (listing (r′ .listed)) reply (held (r″ .waiting)) (listing (r″ .listed)) (r″ .opened)
+      turned-on u h = let i = come u h in turned-moved (queryOf score r′) (queryOf score r) (book (r′ .source)) (book (r .source)) (held (r′ .waiting)) (listing (r′ .listed)) (r′ .opened) reply (held (r″ .waiting)) (listing (r″ .listed)) (r″ .opened) (same-query r r′ kept) (kept .source .same) turned (i .1 .0) (i .1 .1)
 
   pub comes-on : (r r′ r″ : Run S R) → Kept book pages meter r r′ → Come r r′ → ((u : Bound) → At (queryOf score r′) (book (r′ .source)) u (held (r′ .waiting)) (listing (r′ .listed)) (r′ .opened) → Turned (queryOf score r′) (book (r′ .source)) (listing (r′ .listed)) None (held (r″ .waiting)) (listing (r″ .listed)) (r″ .opened)) → Come r r″
   comes-on r r′ r″ kept come turned u h = let t = turned-on r r′ r″ kept come None turned u h in (t .0 ∙ come u h .0, t .1)

@@ -184,15 +184,20 @@ module _ (q : Query) (laws : Laws q) (b : Book) (lawful : Lawful b) where
       -- the entry is set aside
       pub aside : passes q ss e ≡ false → Turned q b ss None ys ss n
       aside h =
-          let off : e ∈ row q b → ⊥ = turn .unwanted (ap (λ xs. passes q xs e) (sym (at-u .listed)) ∙ h) in
-          (refl, (upTo κ, record {
-            keys = keyed .1;
-            heap = taken .heap (at-u .heap);
-            waits = λ t. sym (turn .leaves (λ c _ m. off m) t);
-            listed = at-u .listed ∙ sym (turn .listed-same (λ s _ m. off m));
-            reads = at-u .reads ∙ ap length (sym (turn .opened-same (λ c _ m. off m)));
-            clear = clear-up (λ m. absurd (off m));
-          }))
+          let off : e ∈ row q b → ⊥ = turn .unwanted (ap (λ xs. passes q xs e) (sym (at-u .listed)) ∙ h) in (
+            refl,
+            (
+              upTo κ,
+              record {
+                keys = keyed .1;
+                heap = taken .heap (at-u .heap);
+                waits = λ t. sym (turn .leaves (λ c _ m. off m) t);
+                listed = at-u .listed ∙ sym (turn .listed-same (λ s _ m. off m));
+                reads = at-u .reads ∙ ap length (sym (turn .opened-same (λ c _ m. off m)));
+                clear = clear-up (λ m. absurd (off m));
+              },
+            ),
+          )
 
       module _ (s : stated.Station) (is : e ≡ Station s) (passed : passes q ss e ≡ true) where
         no-page : (c : Child) → e ≡ Page c → e ∈ row q b → ⊥
@@ -212,14 +217,17 @@ module _ (q : Query) (laws : Laws q) (b : Book) (lawful : Lawful b) where
               gives = sym (h .0);
               reads = sym (ap length (h .1) ∙ ap (λ k. length (opened q b (below k))) κ-is ∙ opened-below);
               lists = more;
-              goes = λ _. (upTo κ, record {
-                keys = keyed .1;
-                heap = taken .heap (at-u .heap);
-                waits = λ t. sym (turn .leaves no-page t);
-                listed = more ∙ ap (λ xs. xs ++ s ∷ []) (at-u .listed) ∙ sym (turn .lists s is m);
-                reads = at-u .reads ∙ ap length (sym (turn .opened-same no-page));
-                clear = clear;
-              });
+              goes = λ _. (
+                upTo κ,
+                record {
+                  keys = keyed .1;
+                  heap = taken .heap (at-u .heap);
+                  waits = λ t. sym (turn .leaves no-page t);
+                  listed = more ∙ ap (λ xs. xs ++ s ∷ []) (at-u .listed) ∙ sym (turn .lists s is m);
+                  reads = at-u .reads ∙ ap length (sym (turn .opened-same no-page));
+                  clear = clear;
+                },
+              );
             }
 
         -- it finds the list full
@@ -251,15 +259,20 @@ module _ (q : Query) (laws : Laws q) (b : Book) (lawful : Lawful b) where
         pub entered : length zs ≤ 1024 → Opens q b (length b) (c .page) ss ys zs n m (Ok tt) → Turned q b ss None zs ss m
         entered room o =
             let same : Same (entriesOf zs) (waiting q b (upTo κ)) = λ t. o .2 .same t ∙ sym (comes t) in
-            let count = same-length (entriesOf zs) (waiting q b (upTo κ)) same in
-            (refl, (upTo κ, record {
-              keys = o .2 .keys (keyed .1);
-              heap = o .2 .heap (taken .heap (at-u .heap));
-              waits = same;
-              listed = at-u .listed ∙ sym (turn .listed-same no-station);
-              reads = o .1 ∙ omega (arith, more-opened);
-              clear = clear-up (λ _. halt-is ∙ open-none (c .page) (upTo κ) (o .0) (omega (arith, count, entries-length zs)));
-            }))
+            let count = same-length (entriesOf zs) (waiting q b (upTo κ)) same in (
+              refl,
+              (
+                upTo κ,
+                record {
+                  keys = o .2 .keys (keyed .1);
+                  heap = o .2 .heap (taken .heap (at-u .heap));
+                  waits = same;
+                  listed = at-u .listed ∙ sym (turn .listed-same no-station);
+                  reads = o .1 ∙ omega (arith, more-opened);
+                  clear = clear-up (λ _. halt-is ∙ open-none (c .page) (upTo κ) (o .0) (omega (arith, count, entries-length zs)));
+                },
+              ),
+            )
 
         -- or halts the search
         halted : (f : Fault) → openFault q b limits (c .page) (upTo κ) ≡ Some f → m ≡ n + 1 → Turned q b ss (Some (Err f)) zs ss m

@@ -3,3 +3,4 @@ pub mod Held
 pub mod States
 pub mod Relation
 pub mod Playing
+pub mod Halting

@@ -11,6 +11,7 @@ mod waiting;
 
 pub use call::Call;
 pub use listed::MOST_LISTED;
+pub use plays::halts_for_three_reasons;
 pub use plays::make;
 pub use plays::play;
 pub use run::Phase;

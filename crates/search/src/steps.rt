@@ -23,7 +23,13 @@ use stations::Question;
 use stations::Station;
 
 // Puts the entry to what waits unless it is set aside: false where there is no room for it.
-fn admit<R: Ranking>(waiting: &mut Queue, ranking: &R, question: Question, listed: &Listed, entry: Entry) -> bool
+fn admit<R: Ranking>(
+    waiting: &mut Queue,
+    ranking: &R,
+    question: Question,
+    listed: &Listed,
+    entry: Entry,
+) -> bool
     ensures fills { λ r. ⌜ Fills 1024 (bands (score (now (ranking .entry))) question) (listing (now (listed .entry))) (entry ∷ []) (held (now (waiting .entry))) r (held (now (waiting .exit))) ⌝ }
     ensures few { λ _. ⌜ now (waiting .exit) .used ≤ now (waiting .entry) .used + 1 ⌝ }
 {
@@ -34,7 +40,13 @@ fn admit<R: Ranking>(waiting: &mut Queue, ranking: &R, question: Question, liste
 }
 
 // Puts the entries of a page to what waits but for those set aside: false where there is no room for one.
-fn fill<R: Ranking>(waiting: &mut Queue, ranking: &R, question: Question, listed: &Listed, page: &Page) -> bool
+fn fill<R: Ranking>(
+    waiting: &mut Queue,
+    ranking: &R,
+    question: Question,
+    listed: &Listed,
+    page: &Page,
+) -> bool
     ensures fills { λ r. ⌜ Fills 1024 (bands (score (now (ranking .entry))) question) (listing (now (listed .entry))) (take (now (page .entry) .len) (now (page .entry) .entries)) (held (now (waiting .entry))) r (held (now (waiting .exit))) ⌝ }
     ensures few { λ _. ⌜ now (waiting .exit) .used ≤ now (waiting .entry) .used + 12 ⌝ }
 {
@@ -66,7 +78,13 @@ impl<S: PageSource, R: Ranking> Run<S, R> {
         match self.source.read(page) {
             Err(fault) => Err(fault),
             Ok(entries) => {
-                if fill(&mut self.waiting, &self.ranking, self.question, &self.listed, &entries) {
+                if fill(
+                    &mut self.waiting,
+                    &self.ranking,
+                    self.question,
+                    &self.listed,
+                    &entries,
+                ) {
                     return Ok(());
                 }
                 Err(Fault {

@@ -13,6 +13,7 @@ returns-then-not-admit g c =
     }
 
 pub loop-i-again : need.loop-i-again
-loop-i-again g c =
-    (fills-more (bands (g .R·Ranking .score (c .args .ranking .now)) (c .args .question)) (listing (c .args .listed .now)) (c .args .page .now .entries) (c .loop-i .i) _ (search needs) (held (c .args .waiting .now)) (held (c .loop-i .waiting)) (held (c .admit .last .waiting)) (c .loop-i .inv .0) (c .if-not-admit .ensures tt .fills),
-     omega (arith, c .loop-i .inv .1, c .if-not-admit .ensures tt .few))
+loop-i-again g c = (
+  fills-more (bands (g .R·Ranking .score (c .args .ranking .now)) (c .args .question)) (listing (c .args .listed .now)) (c .args .page .now .entries) (c .loop-i .i) _ (search needs) (held (c .args .waiting .now)) (held (c .loop-i .waiting)) (held (c .admit .last .waiting)) (c .loop-i .inv .0) (c .if-not-admit .ensures tt .fills),
+  omega (arith, c .loop-i .inv .1, c .if-not-admit .ensures tt .few),
+)

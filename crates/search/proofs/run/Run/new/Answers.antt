@@ -7,4 +7,5 @@ returns g c =
     record {
       source = refl;
       ranking = refl;
-      produces = λ m. record { source-is = refl; ranking-is = refl; history = new; listed-is = refl; state = (refl, refl, refl) } }
+      produces = λ m. record { source-is = refl; ranking-is = refl; history = new; listed-is = refl; state = (refl, refl, refl) };
+    }

@@ -13,7 +13,8 @@ pub returns-then-self-gt0 : need.returns-then-self-gt0
 returns-then-self-gt0 g c =
     record {
       kept = c .reply .ensures .kept;
-      gives = λ h. ⊎-elim (λ f. absurd (omega (arith, f .0, c .if-self-gt0 .taken))) (λ a. c .reply .ensures .gives (a .0) (a .1)) h }
+      gives = λ h. ⊎-elim (λ f. absurd (omega (arith, f .0, c .if-self-gt0 .taken))) (λ a. c .reply .ensures .gives (a .0) (a .1)) h;
+    }
 
 pub returns-in-Ok : need.returns-in-Ok
 returns-in-Ok g c =
@@ -24,8 +25,9 @@ returns-in-Ok g c =
     record {
       kept = runs.kept-then (g .S·PageSource .book) (g .S·PageSource .pages) (g .S·PageSource .meter) (g .R·Ranking .score) r r₁ r₂ (o .kept) (c .reply-in-Ok .ensures .kept);
       gives = λ h. ⊎-elim
-        (λ f. runs.begun-then (g .S·PageSource .book) (g .S·PageSource .pages) (g .S·PageSource .meter) (g .R·Ranking .score) (g .S·PageSource .laws) (g .R·Ranking·met .monotone) r r₁ r₂ (c .reply-in-Ok .result) f (o .kept) (o .listed) (o .opens) (c .reply-in-Ok .ensures .gives))
-        (λ a. absurd (omega (arith, a .1 .reads, c .if-self-gt0 .left))) h }
+          (λ f. runs.begun-then (g .S·PageSource .book) (g .S·PageSource .pages) (g .S·PageSource .meter) (g .R·Ranking .score) (g .S·PageSource .laws) (g .R·Ranking·met .monotone) r r₁ r₂ (c .reply-in-Ok .result) f (o .kept) (o .listed) (o .opens) (c .reply-in-Ok .ensures .gives))
+          (λ a. absurd (omega (arith, a .1 .reads, c .if-self-gt0 .left))) h;
+    }
 
 pub returns-in-Err : need.returns-in-Err
 returns-in-Err g c =
@@ -35,5 +37,6 @@ returns-in-Err g c =
     record {
       kept = o .kept;
       gives = λ h. ⊎-elim
-        (λ f. subst (λ l. Gave (queryOf (g .R·Ranking .score) r) (g .S·PageSource .book (r .source)) (listing (r .listed)) (Err (c .in-Err .fault)) (held (r₁ .waiting)) (listing l) (r₁ .opened)) (sym (o .listed)) (runs.top-refused (g .S·PageSource .book) (g .S·PageSource .pages) (g .S·PageSource .meter) (g .R·Ranking .score) (g .S·PageSource .laws) (g .R·Ranking·met .monotone) r f (r₁ .waiting) (r₁ .opened) (c .in-Err .fault) (o .opens)))
-        (λ a. absurd (omega (arith, a .1 .reads, c .if-self-gt0 .left))) h }
+          (λ f. subst (λ l. Gave (queryOf (g .R·Ranking .score) r) (g .S·PageSource .book (r .source)) (listing (r .listed)) (Err (c .in-Err .fault)) (held (r₁ .waiting)) (listing l) (r₁ .opened)) (sym (o .listed)) (runs.top-refused (g .S·PageSource .book) (g .S·PageSource .pages) (g .S·PageSource .meter) (g .R·Ranking .score) (g .S·PageSource .laws) (g .R·Ranking·met .monotone) r f (r₁ .waiting) (r₁ .opened) (c .in-Err .fault) (o .opens)))
+          (λ a. absurd (omega (arith, a .1 .reads, c .if-self-gt0 .left))) h;
+    }

@@ -7,7 +7,8 @@ returns-in-Err g c =
     record {
       source = refl;
       ranking = refl;
-      produces = λ rank b h stood m p. start-refused (g .S·PageSource .book) (g .S·PageSource .meter) (g .R·Ranking .score) rank b h stood m (c .args .self .now) p (c .args .question) (c .in-Err .fault) (c .in-Err .ensures tt) }
+      produces = λ rank b h stood m p. start-refused (g .S·PageSource .book) (g .S·PageSource .meter) (g .R·Ranking .score) rank b h stood m (c .args .self .now) p (c .args .question) (c .in-Err .fault) (c .in-Err .ensures tt);
+    }
 
 pub returns-in-Ok : need.returns-in-Ok
 returns-in-Ok g c =
@@ -15,4 +16,5 @@ returns-in-Ok g c =
     record {
       source = o .source;
       ranking = o .ranking;
-      produces = λ rank b h stood m p. start-accepted (g .S·PageSource .book) (g .S·PageSource .meter) (g .R·Ranking .score) rank b h stood m (c .args .self .now) p (c .args .question) _ (c .in-Ok .ensures tt) (g .S·PageSource .laws .metered (c .args .self .now .source)) (o .source) (o .ranking) refl (o .phase) (o .none) }
+      produces = λ rank b h stood m p. start-accepted (g .S·PageSource .book) (g .S·PageSource .meter) (g .R·Ranking .score) rank b h stood m (c .args .self .now) p (c .args .question) _ (c .in-Ok .ensures tt) (g .S·PageSource .laws .metered (c .args .self .now .source)) (o .source) (o .ranking) refl (o .phase) (o .none);
+    }

@@ -11,7 +11,8 @@ returns-in-None g c =
     record {
       source = refl;
       ranking = refl;
-      produces = λ rank b h stood m p. subst (λ f. Produces (g .S·PageSource .book) (g .S·PageSource .meter) (g .R·Ranking .score) rank b (h ++ stopped (Err f) ∷ []) nothing m (c .args .self .now)) (sym (c .no-search .ensures)) (stop-none (g .S·PageSource .book) (g .S·PageSource .meter) (g .R·Ranking .score) rank b h stood m (c .args .self .now) p (c .in-None .is)) }
+      produces = λ rank b h stood m p. subst (λ f. Produces (g .S·PageSource .book) (g .S·PageSource .meter) (g .R·Ranking .score) rank b (h ++ stopped (Err f) ∷ []) nothing m (c .args .self .now)) (sym (c .no-search .ensures)) (stop-none (g .S·PageSource .book) (g .S·PageSource .meter) (g .R·Ranking .score) rank b h stood m (c .args .self .now) p (c .in-None .is));
+    }
 
 pub returns-in-rest : need.returns-in-rest
 returns-in-rest g c =
@@ -19,4 +20,5 @@ returns-in-rest g c =
     record {
       source = o .source;
       ranking = o .ranking;
-      produces = λ rank b h stood m p. stop-some (g .S·PageSource .book) (g .S·PageSource .meter) (g .R·Ranking .score) rank b h stood m (c .args .self .now) (c .clear .last .self) p (c .in-rest .not-None) (o .source) (o .ranking) (o .phase) (o .none) }
+      produces = λ rank b h stood m p. stop-some (g .S·PageSource .book) (g .S·PageSource .meter) (g .R·Ranking .score) rank b h stood m (c .args .self .now) (c .clear .last .self) p (c .in-rest .not-None) (o .source) (o .ranking) (o .phase) (o .none);
+    }

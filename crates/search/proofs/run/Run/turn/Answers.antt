@@ -16,7 +16,8 @@ returns-in-rest g c =
       kept = record { source = record { same = refl; counted = refl; ranking = refl }; question = refl; metered = λ m h. h };
       phase = refl;
       falls = tt;
-      turns = λ u h. runs.ended (g .S·PageSource .book) (g .S·PageSource .pages) (g .S·PageSource .meter) (g .R·Ranking .score) (g .S·PageSource .laws) (g .R·Ranking·met .monotone) r u h (held (c .pop .last .self)) (c .in-rest .ensures tt .0) }
+      turns = λ u h. runs.ended (g .S·PageSource .book) (g .S·PageSource .pages) (g .S·PageSource .meter) (g .R·Ranking .score) (g .S·PageSource .laws) (g .R·Ranking·met .monotone) r u h (held (c .pop .last .self)) (c .in-rest .ensures tt .0);
+    }
 
 pub returns-then-not-passes : need.returns-then-not-passes
 returns-then-not-passes g c =
@@ -25,7 +26,8 @@ returns-then-not-passes g c =
       kept = record { source = record { same = refl; counted = refl; ranking = refl }; question = refl; metered = λ m h. h };
       phase = refl;
       falls = omega (arith, popped-used (r .waiting) (c .pop .last .self) (c .in-Some .first) (c .in-Some .ensures tt));
-      turns = λ u h. runs.aside (g .S·PageSource .book) (g .S·PageSource .pages) (g .S·PageSource .meter) (g .R·Ranking .score) (g .S·PageSource .laws) (g .R·Ranking·met .monotone) r u h (c .in-Some .first) (held (c .pop .last .self)) (c .in-Some .ensures tt) (sym (c .if-not-passes .ensures tt (g .R·Ranking .score (r .ranking)))) }
+      turns = λ u h. runs.aside (g .S·PageSource .book) (g .S·PageSource .pages) (g .S·PageSource .meter) (g .R·Ranking .score) (g .S·PageSource .laws) (g .R·Ranking·met .monotone) r u h (c .in-Some .first) (held (c .pop .last .self)) (c .in-Some .ensures tt) (sym (c .if-not-passes .ensures tt (g .R·Ranking .score (r .ranking))));
+    }
 
 pub returns-then-push : need.returns-then-push
 returns-then-push g c =
@@ -34,7 +36,8 @@ returns-then-push g c =
       kept = record { source = record { same = refl; counted = refl; ranking = refl }; question = refl; metered = λ m h. h };
       phase = refl;
       falls = tt;
-      turns = λ u h. runs.handed (g .S·PageSource .book) (g .S·PageSource .pages) (g .S·PageSource .meter) (g .R·Ranking .score) (g .S·PageSource .laws) (g .R·Ranking·met .monotone) r u h (c .in-Some .first) (held (c .pop .last .self)) (c .in-Some .ensures tt) (c .in-Station .station) (c .in-Station .is) (sym (c .if-not-passes .ensures tt (g .R·Ranking .score (r .ranking)))) (listing (c .push .last .self)) (c .if-push .ensures tt) }
+      turns = λ u h. runs.handed (g .S·PageSource .book) (g .S·PageSource .pages) (g .S·PageSource .meter) (g .R·Ranking .score) (g .S·PageSource .laws) (g .R·Ranking·met .monotone) r u h (c .in-Some .first) (held (c .pop .last .self)) (c .in-Some .ensures tt) (c .in-Station .station) (c .in-Station .is) (sym (c .if-not-passes .ensures tt (g .R·Ranking .score (r .ranking)))) (listing (c .push .last .self)) (c .if-push .ensures tt);
+    }
 
 pub returns-else-push : need.returns-else-push
 returns-else-push g c =
@@ -43,7 +46,8 @@ returns-else-push g c =
       kept = record { source = record { same = refl; counted = refl; ranking = refl }; question = refl; metered = λ m h. h };
       phase = refl;
       falls = tt;
-      turns = λ u h. runs.list-full (g .S·PageSource .book) (g .S·PageSource .pages) (g .S·PageSource .meter) (g .R·Ranking .score) (g .S·PageSource .laws) (g .R·Ranking·met .monotone) r u h (c .in-Some .first) (held (c .pop .last .self)) (c .in-Some .ensures tt) (c .in-Station .station) (c .in-Station .is) (sym (c .if-not-passes .ensures tt (g .R·Ranking .score (r .ranking)))) (listing (c .push .last .self)) (c .if-push .ensures tt) }
+      turns = λ u h. runs.list-full (g .S·PageSource .book) (g .S·PageSource .pages) (g .S·PageSource .meter) (g .R·Ranking .score) (g .S·PageSource .laws) (g .R·Ranking·met .monotone) r u h (c .in-Some .first) (held (c .pop .last .self)) (c .in-Some .ensures tt) (c .in-Station .station) (c .in-Station .is) (sym (c .if-not-passes .ensures tt (g .R·Ranking .score (r .ranking)))) (listing (c .push .last .self)) (c .if-push .ensures tt);
+    }
 
 pub returns-in-Ok : need.returns-in-Ok
 returns-in-Ok g c =
@@ -54,7 +58,8 @@ returns-in-Ok g c =
       kept = record { source = record { same = o .kept .source .same; counted = o .kept .source .counted; ranking = o .kept .source .ranking }; question = o .kept .question; metered = o .kept .metered };
       phase = o .phase;
       falls = omega (arith, popped-used (r .waiting) (c .pop .last .self) (c .in-Some .first) (c .in-Some .ensures tt), o .opens .1, o .few);
-      turns = λ u h. subst (λ l. Turned (queryOf (g .R·Ranking .score) r) (g .S·PageSource .book (r .source)) (listing (r .listed)) None (held (r′ .waiting)) (listing l) (r′ .opened)) (sym (o .listed)) (runs.entered (g .S·PageSource .book) (g .S·PageSource .pages) (g .S·PageSource .meter) (g .R·Ranking .score) (g .S·PageSource .laws) (g .R·Ranking·met .monotone) r u h (c .in-Some .first) (held (c .pop .last .self)) (c .in-Some .ensures tt) (c .in-Page .field-0) (c .in-Page .is) (sym (c .if-not-passes .ensures tt (g .R·Ranking .score (r .ranking)))) (r′ .waiting) (r′ .opened) (subst (λ d. Opens (queryOf (g .R·Ranking .score) r) (g .S·PageSource .book (r .source)) (g .S·PageSource .pages (r .source)) (d .page) (listing (r .listed)) (held (c .pop .last .self)) (held (r′ .waiting)) (r .opened) (r′ .opened) (Ok tt)) (c .in-Page .field-0-is) (o .opens))) }
+      turns = λ u h. subst (λ l. Turned (queryOf (g .R·Ranking .score) r) (g .S·PageSource .book (r .source)) (listing (r .listed)) None (held (r′ .waiting)) (listing l) (r′ .opened)) (sym (o .listed)) (runs.entered (g .S·PageSource .book) (g .S·PageSource .pages) (g .S·PageSource .meter) (g .R·Ranking .score) (g .S·PageSource .laws) (g .R·Ranking·met .monotone) r u h (c .in-Some .first) (held (c .pop .last .self)) (c .in-Some .ensures tt) (c .in-Page .field-0) (c .in-Page .is) (sym (c .if-not-passes .ensures tt (g .R·Ranking .score (r .ranking)))) (r′ .waiting) (r′ .opened) (subst (λ d. Opens (queryOf (g .R·Ranking .score) r) (g .S·PageSource .book (r .source)) (g .S·PageSource .pages (r .source)) (d .page) (listing (r .listed)) (held (c .pop .last .self)) (held (r′ .waiting)) (r .opened) (r′ .opened) (Ok tt)) (c .in-Page .field-0-is) (o .opens)));
+    }
 
 pub returns-in-Err : need.returns-in-Err
 returns-in-Err g c =
@@ -65,4 +70,5 @@ returns-in-Err g c =
       kept = record { source = record { same = o .kept .source .same; counted = o .kept .source .counted; ranking = o .kept .source .ranking }; question = o .kept .question; metered = o .kept .metered };
       phase = o .phase;
       falls = tt;
-      turns = λ u h. subst (λ l. Turned (queryOf (g .R·Ranking .score) r) (g .S·PageSource .book (r .source)) (listing (r .listed)) (Some (Err (c .in-Err .fault))) (held (r′ .waiting)) (listing l) (r′ .opened)) (sym (o .listed)) (runs.refused (g .S·PageSource .book) (g .S·PageSource .pages) (g .S·PageSource .meter) (g .R·Ranking .score) (g .S·PageSource .laws) (g .R·Ranking·met .monotone) r u h (c .in-Some .first) (held (c .pop .last .self)) (c .in-Some .ensures tt) (c .in-Page .field-0) (c .in-Page .is) (sym (c .if-not-passes .ensures tt (g .R·Ranking .score (r .ranking)))) (r′ .waiting) (r′ .opened) (c .in-Err .fault) (subst (λ d. Opens (queryOf (g .R·Ranking .score) r) (g .S·PageSource .book (r .source)) (g .S·PageSource .pages (r .source)) (d .page) (listing (r .listed)) (held (c .pop .last .self)) (held (r′ .waiting)) (r .opened) (r′ .opened) (Err (c .in-Err .fault))) (c .in-Page .field-0-is) (o .opens))) }
+      turns = λ u h. subst (λ l. Turned (queryOf (g .R·Ranking .score) r) (g .S·PageSource .book (r .source)) (listing (r .listed)) (Some (Err (c .in-Err .fault))) (held (r′ .waiting)) (listing l) (r′ .opened)) (sym (o .listed)) (runs.refused (g .S·PageSource .book) (g .S·PageSource .pages) (g .S·PageSource .meter) (g .R·Ranking .score) (g .S·PageSource .laws) (g .R·Ranking·met .monotone) r u h (c .in-Some .first) (held (c .pop .last .self)) (c .in-Some .ensures tt) (c .in-Page .field-0) (c .in-Page .is) (sym (c .if-not-passes .ensures tt (g .R·Ranking .score (r .ranking)))) (r′ .waiting) (r′ .opened) (c .in-Err .fault) (subst (λ d. Opens (queryOf (g .R·Ranking .score) r) (g .S·PageSource .book (r .source)) (g .S·PageSource .pages (r .source)) (d .page) (listing (r .listed)) (held (c .pop .last .self)) (held (r′ .waiting)) (r .opened) (r′ .opened) (Err (c .in-Err .fault))) (c .in-Page .field-0-is) (o .opens)));
+    }
