@@ -1,18 +1,16 @@
 -- The bytes of a lawful book whose pages are all live load, and spell the book.
 use mathlib.Core.Path.{_≡_, refl, sym, ap, _∙_, subst}
-use mathlib.Core.Bool.{Bool, true, false, not, _&&_, _||_, cond}
+use mathlib.Core.Bool.{Bool, true, false, _||_, cond}
 use mathlib.Core.Logic.{_⊎_, inl, inr}
 use mathlib.Core.List.{List, [], _∷_, _++_, map}
-use Prim.Native.Nat.{ℕ, zero, suc, _+_, _-_, _*_, _/_, _%_, _^_, _<_, _≤_}
+use Prim.Native.Nat.{ℕ, zero, suc, _+_, _*_, _^_, _<_, _≤_}
 use native.Mathlib.Omega.{arith}
 use lib.Dec.{eqb}
-use lib.ListN.{length, getD, take, drop, set, replicate}
-use Rattle.std.specs.Iters.{counting}
-use Rattle.std.specs.declared.option.Option.{Option}
+use lib.ListN.{length, getD, take, drop}
 use Rattle.std.specs.declared.option.Option.the-variants.{Some, None}
 use Rattle.std.specs.Options.{isSome}
 use Rattle.std.specs.shelf.Lists.{All, joined}
-use Rattle.std.proofs.shelf.Lists.{append-nil, take-at, getD-set-same, getD-set-other, same-lists, length-map, length-set, length-replicate, getD-map, getD-past}
+use Rattle.std.proofs.shelf.Lists.{append-nil, take-at, getD-set-same, getD-set-other, same-lists, length-map, length-set, getD-map, getD-past}
 use Rattle.std.proofs.shelf.Elements.{all-from-getD, all-getD, all-weaker, all-append}
 use Rattle.std.proofs.shelf.Counted.{length-map-counting, getD-map-counting}
 use Rattle.std.proofs.shelf.Tests.{cases-eq, cases-lt, ne-eqb, eq-eqb, or-left, or-right, and-from, not-from-false}
@@ -21,9 +19,9 @@ use Rattle.stations.specs.declared.measures.Measures.{Measures}
 use Rattle.stations.specs.Beating.{Ordinary, _≼_}
 use Rattle.stations.specs.Counting.{bit, count}
 use Rattle.books.specs.declared.Child.{Child}
-use Rattle.books.specs.Books.{Slot, dead, leaf, node, Book, slot, level, size, stationsOn, childrenOn, stations, named, IsLive, names, Lawful}
-use Rattle.stored.specs.Layout.{isMarkedDead, isPadded, live}
-use Rattle.stored.specs.Notes.{Notes, noNotes, noteOf, isNamed, naming, noteOne, noteAll, notesAfter}
+use Rattle.books.specs.Books.{Slot, dead, Book, slot, level, stationsOn, childrenOn, stations, named, IsLive, names, Lawful}
+use Rattle.stored.specs.Layout.{isPadded, live}
+use Rattle.stored.specs.Notes.{Notes, noNotes, isNamed, naming, noteOne, noteAll, notesAfter}
 use Rattle.stored.specs.Loading.{pageCount, pageBytes, pagesIn, isLiveAt, slotAt, slotsFrom, loadFault, spelledBook}
 use Rattle.stored.specs.Soundness.{Sound}
 use Rattle.stored.proofs.Counts.{count-append}
@@ -76,9 +74,6 @@ later-named q p (s ∷ ss) h a =
 some-bit : (t : Bool) → 1 ≤ bit t → t ≡ true
 some-bit true h = refl
 some-bit false h = let no-way : ⊥ = omega arith in absurd no-way
-
-bit-some : (t : Bool) → t ≡ true → 1 ≤ bit t
-bit-some t e = let b = ap bit e in omega arith
 
 noted : (l q : ℕ) (notes : Notes) (cs : List Child) → All (λ c. c .page < length notes) cs → 1 ≤ bit (isNamed notes q) + count (names q) cs → 1 ≤ bit (isNamed (noteAll l notes cs) q)
 noted l q notes [] inside h = omega arith

@@ -1,13 +1,12 @@
 -- The pages of a roll, read and written one after the other.
-use mathlib.Core.Path.{_≡_, refl, sym, ap, _∙_, subst}
-use mathlib.Core.List.{List, [], _∷_, _++_}
-use Prim.Native.Nat.{ℕ, _+_, _-_, _*_, _<_, _≤_}
+use mathlib.Core.Path.{_≡_, sym, ap, _∙_, subst}
+use mathlib.Core.List.{List, [], _++_}
+use Prim.Native.Nat.{ℕ, _+_, _*_, _<_, _≤_}
 use native.Mathlib.Omega.{arith}
-use lib.ListN.{length, getD, take, drop}
+use lib.ListN.{length, take, drop}
 use borrow.Rule.Slice.PartMut.{putMid}
 use Rattle.std.specs.Orderings.{When}
-use Rattle.std.specs.declared.option.Option.{Option}
-use Rattle.std.specs.declared.option.Option.the-variants.{Some, None}
+use Rattle.std.specs.declared.option.Option.the-variants.{None}
 use Rattle.std.specs.declared.result.Result.{Result}
 use Rattle.std.specs.declared.result.Result.the-variants.{Ok, Err}
 use Rattle.std.specs.shelf.Lists.{joined}
@@ -19,7 +18,7 @@ use Rattle.stations.specs.declared.fault.Code.the-variants.{PageNumber}
 use Rattle.stations.specs.declared.station.Station.{Station}
 use Rattle.stations.specs.Faults.{fault, verdict}
 use Rattle.stations.specs.Rows.{rowFault}
-use Rattle.books.specs.Books.{Slot, dead, leaf, node, Book, slot, level, entriesOn, IsLive}
+use Rattle.books.specs.Books.{Slot, dead, leaf, node, Book, slot, level, IsLive}
 use Rattle.sources.specs.declared.page.Page.{Page}
 use Rattle.sources.specs.Sources.{Shows, Seen, Gives, Reads}
 use Rattle.rolls.specs.declared.roll.Roll.{Roll}

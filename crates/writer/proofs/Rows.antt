@@ -1,36 +1,39 @@
 -- Rows in code order: sound where the row is, and then not refused.
 use mathlib.Core.Path.{_≡_, refl, sym, ap, _∙_, subst}
 use mathlib.Core.Bool.{Bool, true, false, _||_}
-use mathlib.Core.List.{List, [], _∷_, _++_, map}
-use Prim.Native.Nat.{ℕ, zero, suc, _+_, _*_, _^_, _<_, _≤_}
+use mathlib.Core.List.{List, [], _∷_, _++_}
+use Prim.Native.Nat.{ℕ, zero, suc, _+_, _^_, _<_, _≤_}
 use native.Mathlib.Omega.{arith}
 use lib.Dec.{eqb, ltb}
 use lib.ListN.{length}
 use Rattle.std.specs.declared.option.Option.{Option}
-use Rattle.std.specs.declared.option.Option.the-variants.{Some, None}
+use Rattle.std.specs.declared.option.Option.the-variants.{None}
 use Rattle.std.specs.shelf.Lists.{All}
 use Rattle.std.specs.Iters.{counting}
 use Rattle.std.proofs.shelf.Lists.{append-assoc}
-use Rattle.std.proofs.shelf.Elements.{all-append, all-getD}
+use Rattle.std.proofs.shelf.Elements.{all-append, all-getD, all-map}
 use Rattle.std.proofs.shelf.Tests.{ne-eqb, eq-eqb, le-ltb}
 use Rattle.stations.specs.declared.fault.Fault.{Fault}
 use Rattle.stations.specs.declared.fault.Code.the-variants.{OutOfRange, TooManyStations, RepeatedNumber}
 use Rattle.stations.specs.declared.station.Station.{Station}
-use Rattle.stations.specs.Counting.{bit, count, sort}
+use Rattle.stations.specs.Counting.{bit, count}
 use Rattle.stations.specs.Faults.{fault, placeless, refuseIf, orElse}
 use Rattle.stations.specs.Rows.{holdsNumber, zeroFault, repeatFault, mostStations, rowFault}
-use Rattle.books.specs.Books.{Book, slot, dead, stations, numbered, IsLive, Lawful, Whole}
+use Rattle.books.specs.Lists.{Pairwise}
+use Rattle.books.specs.Books.{slot, dead, stations, numbered, IsLive, Lawful, Whole}
 use Rattle.rolls.specs.Rolls.{rollBook, pageCount, pagesOf, pageAt, levelPages, pagesFrom, topLevel}
 use Rattle.rolls.specs.Laws.{Sound}
 use Rattle.rolls.proofs.Pages.{count-append}
 use Rattle.rolls.proofs.Spans.{page-live}
 use Rattle.rolls.proofs.Books.{rows-make-books}
 use Rattle.rolls.proofs.Counts.{length-roll, count-some, count-few}
+use Rattle.stored.proofs.Counts.{all-of}
 use Rattle.stored.specs.Loading.{loadFault, spelledBook}
 use Rattle.writer.specs.Bytes.{bookBytes}
 use Rattle.writer.specs.Keys.{earlierCode, codeOrder}
-use Rattle.writer.specs.Writing.{Storable, ReadsBack, WrittenBooksReadBack}
-use Rattle.writer.proofs.Sorting.{all-sort, count-sort, length-sort}
+use Rattle.writer.specs.Writing.{Storable, WrittenBooksReadBack}
+use Rattle.writer.proofs.Sorting.{all-sort, count-sort, length-sort, rising-sort}
+use Rattle.writer.proofs.Keyed.{code-one-way, code-not-before}
 use Rattle.writer.proofs.Books.{book-back, book-loads}
 
 -- neither of two checks refuses
@@ -83,6 +86,10 @@ module _ (row : List Station) where
   unfolding codeOrder
   count-order p = count-sort earlierCode p row
 
+  rising-order : Pairwise (λ s t. earlierCode t s ≡ false) (codeOrder row)
+  unfolding codeOrder
+  rising-order = rising-sort earlierCode code-one-way code-not-before row
+
   pub sound-order : Sound row → Sound (codeOrder row)
   sound-order h = record {
     few = (let e = length-order in let k = h .few in omega arith);
@@ -95,15 +102,14 @@ module _ (row : List Station) where
   pages-order = length-roll (codeOrder row) ∙ ap pageCount length-order ∙ sym (length-roll row)
 
 -- every page of a roll can be read
-all-of : {A B : Type 0} (P : B → Type 0) (f : A → B) → ((a : A) → P (f a)) → (xs : List A) → All P (map f xs)
-all-of P f h [] = tt
-all-of P f h (x ∷ xs) = (h x, all-of P f h xs)
+level-live : (row : List Station) (l below : ℕ) → All IsLive (levelPages row l below)
+level-live row l below = all-map IsLive (pageAt row l below) (counting 0 (pagesOf (length row) l)) (all-of (λ i. IsLive (pageAt row l below i)) (page-live row l below) (counting 0 (pagesOf (length row) l)))
 
 all-live : (row : List Station) (l first : ℕ) → All IsLive (pagesFrom row l first)
-all-live row zero first = all-of IsLive (pageAt row 0 (first + pagesOf (length row) 0)) (page-live row 0 (first + pagesOf (length row) 0)) (counting 0 (pagesOf (length row) 0))
+all-live row zero first = level-live row 0 (first + pagesOf (length row) 0)
 all-live row (suc l) first =
     let next = first + pagesOf (length row) (suc l) in
-    all-append IsLive (levelPages row (suc l) next) (pagesFrom row l next) (all-of IsLive (pageAt row (suc l) next) (page-live row (suc l) next) (counting 0 (pagesOf (length row) (suc l)))) (all-live row l next)
+    all-append IsLive (levelPages row (suc l) next) (pagesFrom row l next) (level-live row (suc l) next) (all-live row l next)
 
 pub roll-live : (row : List Station) (p : ℕ) → p < length (rollBook row) → IsLive (slot (rollBook row) p)
 roll-live row p h = all-getD IsLive (rollBook row) p dead h (all-live row (topLevel (length row)) 0)
@@ -140,5 +146,6 @@ reads-back row h =
       lawful = subst Lawful (sym back) (laws .lawful);
       whole = subst Whole (sym back) (laws .whole);
       same = same;
+      rising = subst (Pairwise (λ s t. earlierCode t s ≡ false)) (sym same) (rising-order row);
       counted = λ p. ap (count p) same ∙ count-order row p;
     }

@@ -1,12 +1,11 @@
 -- The bytes of a page spell the page.
-use mathlib.Core.Path.{_≡_, refl, sym, ap, _∙_, subst}
+use mathlib.Core.Path.{_≡_, refl, sym, ap, _∙_}
 use mathlib.Core.Bool.{false, true}
 use mathlib.Core.List.{List, [], _∷_, _++_, map}
 use Prim.Native.Nat.{ℕ, zero, suc, _+_, _-_, _*_, _/_, _%_, _^_, _<_, _≤_}
 use native.Mathlib.Nat.{mul-zero, mul-suc}
 use native.Mathlib.Omega.{arith}
-use lib.Dec.{eqb}
-use lib.ListN.{length, getD, take, drop, replicate}
+use lib.ListN.{length, getD, drop, replicate}
 use Rattle.std.specs.Iters.{counting}
 use Rattle.std.specs.shelf.Lists.{All, joined}
 use Rattle.std.proofs.shelf.Lists.{append-assoc, drop-drop, drop-at, drop-more, getD-drop, same-lists, length-append, length-replicate, length-map}
@@ -17,12 +16,12 @@ use Rattle.stations.specs.declared.measures.Measures.{Measures}
 use Rattle.stations.specs.declared.station.Station.{Station}
 use Rattle.stations.specs.Beating.{Ordinary}
 use Rattle.books.specs.declared.Child.{Child}
-use Rattle.books.specs.declared.Entry.{Entry}
 use Rattle.books.specs.declared.Entry.the-variants as entries
 use Rattle.books.specs.Books.{Slot, dead, leaf, node, level, size, stationsOn, childrenOn, entriesOn, IsLive}
 use Rattle.rolls.proofs.Parts.{joined-map}
 use Rattle.stored.specs.Layout.{shortAt, longAt, measuresAt, stationAt, childAt, levelByte, countByte, isMarkedDead, isPadded, liveSlot, live}
-use Rattle.writer.specs.Bytes.{shortBytes, longBytes, measuresBytes, stationBytes, childBytes, entryBytes, filled, pageWith, slotBytes}
+use Rattle.stored.proofs.Counts.{all-of}
+use Rattle.writer.specs.Bytes.{stationBytes, childBytes, entryBytes, filled, slotBytes}
 
 -- lists of equally many bytes, one after the other
 module _ {X : Type 0} (f : X → List ℕ) (w : ℕ) where
@@ -55,10 +54,6 @@ module _ {X : Type 0} (f : X → List ℕ) (w : ℕ) where
 
   -- entries that are read where they were put come back
   module _ (at′ : List ℕ → ℕ → X) (Fine : X → Type 0) (reads : (bytes : List ℕ) (n : ℕ) (x : X) (rest : List ℕ) → drop n bytes ≡ f x ++ rest → Fine x → at′ bytes n ≡ x) (even : (x : X) → length (f x) ≡ w) where
-    all-even : (xs : List X) → All (λ x. length (f x) ≡ w) xs
-    all-even [] = tt
-    all-even (x ∷ xs) = (even x, all-even xs)
-
     pub read-all : (bytes : List ℕ) (xs : List X) (z : List ℕ) (n : ℕ) → drop 8 bytes ≡ joined f xs ++ z → n ≡ length xs → All Fine xs → map (λ i. at′ bytes (8 + w * i)) (counting 0 n) ≡ xs
     read-all bytes xs z n e m fine =
         same-lists (map (λ i. at′ bytes (8 + w * i)) (counting 0 n)) xs
@@ -69,7 +64,7 @@ module _ {X : Type 0} (f : X → List ℕ) (w : ℕ) where
         let inside : k < length xs = omega arith in
         let same : 0 + k ≡ k = omega arith in
         getD-map-counting (λ i. at′ bytes (8 + w * i)) 0 n k k d below same
-        ∙ reads bytes (8 + w * k) (getD xs k d) (joined f (drop (k + 1) xs) ++ z) (sym (drop-drop (w * k) 8 bytes) ∙ ap (drop (w * k)) e ∙ from-joined k xs d z (all-even xs) inside) (all-getD Fine xs k d inside fine))
+        ∙ reads bytes (8 + w * k) (getD xs k d) (joined f (drop (k + 1) xs) ++ z) (sym (drop-drop (w * k) 8 bytes) ∙ ap (drop (w * k)) e ∙ from-joined k xs d z (all-of (λ x. length (f x) ≡ w) even xs) inside) (all-getD Fine xs k d inside fine))
 
 -- numbers that are read where they were put
 back : (x : ℕ) → x < 2 ^ 16 → x / 256 % 256 % 256 * 256 + x % 256 % 256 ≡ x
@@ -174,18 +169,10 @@ entries-length : (s : Slot) → length (joined entryBytes (entriesOn s)) ≤ 18 
 entries-length dead = omega arith
 entries-length (leaf ss) =
     let same = ap length (joined-map entryBytes entries.Station ss) in
-    let e = length-joined stationBytes 12 ss (evenly ss) in omega arith
-  where
-    evenly : (xs : List Station) → All (λ x. length (stationBytes x) ≡ 12) xs
-    evenly [] = tt
-    evenly (x ∷ xs) = (refl, evenly xs)
+    let e = length-joined stationBytes 12 ss (all-of (λ (x : Station). length (stationBytes x) ≡ 12) (λ x. refl) ss) in omega arith
 entries-length (node l cs) =
     let same = ap length (joined-map entryBytes entries.Page cs) in
-    let e = length-joined childBytes 18 cs (evenly cs) in omega arith
-  where
-    evenly : (xs : List Child) → All (λ x. length (childBytes x) ≡ 18) xs
-    evenly [] = tt
-    evenly (x ∷ xs) = (refl, evenly xs)
+    let e = length-joined childBytes 18 cs (all-of (λ (x : Child). length (childBytes x) ≡ 18) (λ x. refl) cs) in omega arith
 
 filled-length : (bytes : List ℕ) → length bytes ≤ 256 → length (filled bytes) ≡ 256
 filled-length bytes h =

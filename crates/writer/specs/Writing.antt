@@ -1,6 +1,6 @@
 -- What writing a row's book gives, and what is refused.
 use mathlib.Core.Path.{_≡_}
-use mathlib.Core.Bool.{Bool, _||_}
+use mathlib.Core.Bool.{Bool, false, _||_}
 use mathlib.Core.List.{List}
 use Prim.Native.Nat.{ℕ, _*_, _^_, _<_}
 use lib.Dec.{ltb}
@@ -16,13 +16,14 @@ use Rattle.stations.specs.declared.station.Station.{Station}
 use Rattle.stations.specs.Counting.{count}
 use Rattle.stations.specs.Faults.{placeless, refuseIf, orElse}
 use Rattle.stations.specs.Rows.{rowFault}
+use Rattle.books.specs.Lists.{Pairwise}
 use Rattle.books.specs.Books.{stations, Lawful, Whole}
 use Rattle.rolls.specs.Rolls.{rollBook}
 use Rattle.rolls.specs.Laws.{Sound}
 use Rattle.stored.specs.Loading.{loadFault, spelledBook}
 use Rattle.writer.specs.declared.keys.CodeKey.{CodeKey}
 use Rattle.writer.specs.Bytes.{bookBytes}
-use Rattle.writer.specs.Keys.{codeOrder}
+use Rattle.writer.specs.Keys.{earlierCode, codeOrder}
 
 -- the refusal of a row, and then of a work buffer or a book buffer that is too short for it
 unfoldable pub writeFault : List Station → ℕ → ℕ → Option Fault
@@ -58,7 +59,9 @@ pub record ReadsBack (row : List Station) : Type 0 where
   pub whole : Whole (spelledBook (bookBytes (rollBook (codeOrder row))))
   -- its stations are the row's, in code order
   pub same : stations (spelledBook (bookBytes (rollBook (codeOrder row)))) ≡ codeOrder row
-  -- and as many of each kind
+  -- no station comes before an earlier one, by code and then by number
+  pub rising : Pairwise (λ s t. earlierCode t s ≡ false) (stations (spelledBook (bookBytes (rollBook (codeOrder row)))))
+  -- and there are as many of each kind as in the row
   pub counted : (p : Station → Bool) → count p (stations (spelledBook (bookBytes (rollBook (codeOrder row))))) ≡ count p row
 
 -- what was written is read back

@@ -1,12 +1,10 @@
 use mathlib.Core.Path.{_≡_, refl, sym, ap, subst, _∙_}
-use mathlib.Core.List.{[]}
 use Prim.Native.Nat.{_+_, _-_, _*_, _<_, _≤_}
 use native.Mathlib.Omega.{arith}
 use lib.ListN.{length, take, drop}
-use Rattle.std.specs.declared.result.Result.the-variants.{Ok, Err}
+use Rattle.std.specs.declared.result.Result.the-variants.{Err}
 use Rattle.std.proofs.shelf.Lists.{take-all}
 use Rattle.books.specs.Books.{slot}
-use Rattle.sources.specs.Sources.{Seen}
 use Rattle.rolls.specs.Rolls.{rollBook}
 use Rattle.rolls.specs.Source.{bookOf, roll-laws}
 use Rattle.writer.specs.Bytes.{slotBytes, bookBytes}

@@ -1,7 +1,6 @@
 use mathlib.Core.Path.{_≡_}
 use Prim.Native.Nat.{_*_}
-use lib.ListN.{length, take, drop}
-use Rattle.rolls.specs.Rolls.{rollBook}
+use lib.ListN.{take, drop}
 use Rattle.rolls.specs.Source.{bookOf}
 use Rattle.writer.specs.Bytes.{bookBytes}
 use Rattle.writer.proofs.book.write_pages.Given as given

@@ -1,9 +1,8 @@
-use mathlib.Core.Path.{_≡_, refl}
+use mathlib.Core.Path.{refl}
 use mathlib.Core.List.{_++_}
-use Prim.Native.Nat.{_+_, _≤_}
+use Prim.Native.Nat.{_≤_}
 use native.Mathlib.Omega.{arith}
 use lib.ListN.{length}
-use lib.Seq.{paste}
 use Rattle.writer.specs.Bytes.{shortBytes}
 use Rattle.writer.proofs.Puts.{put-next}
 use Rattle.writer.proofs.bytes.put_measures.Needs as need
