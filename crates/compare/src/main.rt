@@ -76,7 +76,7 @@ fn drive<S: PageSource + Drop, R: Ranking + Drop>(heap: Global, source: S, ranki
     Ok(Ended { listed, fault, pages, handed })
 }
 
-// Stations of a kind: spread wide, close together so that many tie, or trading one measure for another.
+// Stations of a kind: spread wide, close together so that many tie, trading one measure for another at random or in row order, or alike in all measures.
 fn stations(heap: Global, dice: &mut Dice, count: usize, kind: u32) -> Result<Vec<Station>, AnyError> {
     let mut row = Vec::new(heap);
     for i in 0..count {
@@ -87,6 +87,10 @@ fn stations(heap: Global, dice: &mut Dice, count: usize, kind: u32) -> Result<Ve
             2 => {
                 let m = dice.measure(60_000);
                 Measures { m1: m, m2: 60_000 - m.min(60_000), m3: dice.measure(9), m4: dice.measure(9) }
+            }
+            3 => {
+                let m = (i % 1152 * 50) as u16;
+                Measures { m1: m, m2: 60_000 - m.min(60_000), m3: 0, m4: 0 }
             }
             _ => {
                 let m = dice.measure(50_000);
@@ -333,7 +337,7 @@ impl Counts {
 
 // One row, one question and one ranking: over the roll, and over the stored book with some pages dead.
 fn compare_one(heap: Global, dice: &mut Dice, count: usize, rolls: &mut Counts, books: &mut Counts) -> Result<(), AnyError> {
-    let kind = dice.below(4);
+    let kind = dice.below(5);
     let row = stations(heap, dice, count, kind)?;
     let asked = question(dice, kind);
     let ranker = ranking(dice)?;
