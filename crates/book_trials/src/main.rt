@@ -5,11 +5,11 @@ use rolls::Roll;
 use rolls::RollSource;
 use sources::Page;
 use sources::PageSource;
-use std::error::AnyError;
-use std::io::Read;
 use stations::Fault;
 use stations::Measures;
 use stations::Station;
+use std::error::AnyError;
+use std::io::Read;
 use stored::Stored;
 use stored::StoredSource;
 
@@ -134,7 +134,10 @@ fn station(i: u32) -> Station {
     let m2 = (i.wrapping_mul(104_729) % 65_536) as u16;
     let m3 = (i.wrapping_mul(31) % 1_009) as u16;
     let m4 = (65_535 - i % 65_536) as u16;
-    Station { number: i.wrapping_mul(3).wrapping_add(1), at: Measures { m1, m2, m3, m4 } }
+    Station {
+        number: i.wrapping_mul(3).wrapping_add(1),
+        at: Measures { m1, m2, m3, m4 },
+    }
 }
 
 fn print_roll(rt: &LibcRuntime, row: &[Station]) -> Result<(), AnyError> {

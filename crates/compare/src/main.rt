@@ -13,8 +13,6 @@ use scans::scan;
 use search::Run;
 use sources::Page;
 use sources::PageSource;
-use std::alloc::Global;
-use std::error::AnyError;
 use stations::Fault;
 use stations::Key;
 use stations::Kind;
@@ -23,6 +21,8 @@ use stations::Question;
 use stations::Region;
 use stations::Station;
 use stations::StationPartialEq;
+use std::alloc::Global;
+use std::error::AnyError;
 use stored::Stored;
 use stored::StoredSource;
 
@@ -35,7 +35,9 @@ struct Dice {
 impl Dice {
     // A number below the limit, or 0.
     fn below(&mut self, limit: u32) -> u32 {
-        self.state = self.state.wrapping_mul(6_364_136_223_846_793_005).wrapping_add(1_442_695_040_888_963_407);
+        self.state = self.state
+            .wrapping_mul(6_364_136_223_846_793_005)
+            .wrapping_add(1_442_695_040_888_963_407);
         let high = (self.state >> 33) as u32;
         if limit == 0 { 0 } else { high % limit }
     }
@@ -55,7 +57,12 @@ struct Ended {
 }
 
 // Starts the question and calls next until it says done or refuses.
-fn drive<S: PageSource + Drop, R: Ranking + Drop>(heap: Global, source: S, ranking: R, question: Question) -> Result<Ended, AnyError> {
+fn drive<S: PageSource + Drop, R: Ranking + Drop>(
+    heap: Global,
+    source: S,
+    ranking: R,
+    question: Question,
+) -> Result<Ended, AnyError> {
     let mut run = Run::new(source, ranking);
     let mut listed = Vec::new(heap);
     let mut fault = None;
@@ -73,28 +80,63 @@ fn drive<S: PageSource + Drop, R: Ranking + Drop>(heap: Global, source: S, ranki
         }
     }
     let (pages, handed) = run.tally();
-    Ok(Ended { listed, fault, pages, handed })
+    Ok(Ended {
+        listed,
+        fault,
+        pages,
+        handed,
+    })
 }
 
 // Stations of a kind: spread wide, close together so that many tie, trading one measure for another at random or in row order, or alike in all measures.
-fn stations(heap: Global, dice: &mut Dice, count: usize, kind: u32) -> Result<Vec<Station>, AnyError> {
+fn stations(
+    heap: Global,
+    dice: &mut Dice,
+    count: usize,
+    kind: u32,
+) -> Result<Vec<Station>, AnyError> {
     let mut row = Vec::new(heap);
     for i in 0..count {
         let number = (i as u64 % 65_536) as u32 + 1;
         let at = match kind {
-            0 => Measures { m1: dice.measure(65_536), m2: dice.measure(65_536), m3: dice.measure(65_536), m4: dice.measure(65_536) },
-            1 => Measures { m1: dice.measure(4), m2: dice.measure(4), m3: dice.measure(3), m4: dice.measure(2) },
+            0 => Measures {
+                m1: dice.measure(65_536),
+                m2: dice.measure(65_536),
+                m3: dice.measure(65_536),
+                m4: dice.measure(65_536),
+            },
+            1 => Measures {
+                m1: dice.measure(4),
+                m2: dice.measure(4),
+                m3: dice.measure(3),
+                m4: dice.measure(2),
+            },
             2 => {
                 let m = dice.measure(60_000);
-                Measures { m1: m, m2: 60_000 - m.min(60_000), m3: dice.measure(9), m4: dice.measure(9) }
+                Measures {
+                    m1: m,
+                    m2: 60_000 - m.min(60_000),
+                    m3: dice.measure(9),
+                    m4: dice.measure(9),
+                }
             }
             3 => {
                 let m = (i % 1152 * 50) as u16;
-                Measures { m1: m, m2: 60_000 - m.min(60_000), m3: 0, m4: 0 }
+                Measures {
+                    m1: m,
+                    m2: 60_000 - m.min(60_000),
+                    m3: 0,
+                    m4: 0,
+                }
             }
             _ => {
                 let m = dice.measure(50_000);
-                Measures { m1: m, m2: m.saturating_add(dice.measure(900)), m3: m.saturating_add(dice.measure(900)), m4: m.saturating_add(dice.measure(900)) }
+                Measures {
+                    m1: m,
+                    m2: m.saturating_add(dice.measure(900)),
+                    m3: m.saturating_add(dice.measure(900)),
+                    m4: m.saturating_add(dice.measure(900)),
+                }
             }
         };
         row.push(Station { number, at })?;
@@ -104,19 +146,48 @@ fn stations(heap: Global, dice: &mut Dice, count: usize, kind: u32) -> Result<Ve
 
 fn question(dice: &mut Dice, kind: u32) -> Question {
     let k = dice.measure(8).min(7) + 1;
-    let full = Region { low: Measures { m1: 0, m2: 0, m3: 0, m4: 0 }, high: Measures { m1: 65_535, m2: 65_535, m3: 65_535, m4: 65_535 } };
+    let full = Region {
+        low: Measures {
+            m1: 0,
+            m2: 0,
+            m3: 0,
+            m4: 0,
+        },
+        high: Measures {
+            m1: 65_535,
+            m2: 65_535,
+            m3: 65_535,
+            m4: 65_535,
+        },
+    };
     if dice.below(2) == 0 {
         return Question { k, region: full };
     }
     let top = if kind == 1 { 4 } else { 60_000 };
-    let low = Measures { m1: dice.measure(top), m2: dice.measure(top) / 2, m3: 0, m4: 0 };
-    Question { k, region: Region { low, high: full.high } }
+    let low = Measures {
+        m1: dice.measure(top),
+        m2: dice.measure(top) / 2,
+        m3: 0,
+        m4: 0,
+    };
+    Question {
+        k,
+        region: Region {
+            low,
+            high: full.high,
+        },
+    }
 }
 
 fn ranking(dice: &mut Dice) -> Result<Ranker, AnyError> {
     let zero = dice.below(4) == 0;
     let top = if zero { 1 } else { 1_001 };
-    let made = Weights::new(dice.measure(top), dice.measure(top), dice.measure(top), dice.measure(top));
+    let made = Weights::new(
+        dice.measure(top),
+        dice.measure(top),
+        dice.measure(top),
+        dice.measure(top),
+    );
     let Ok(weights) = made else {
         return Err("a weight is too large".into());
     };
@@ -170,7 +241,12 @@ fn put_page(bytes: &mut Vec<u8>, page: &Page) -> Result<(), AnyError> {
 }
 
 // The roll of the row as a stored book, with some pages marked dead.
-fn stored_bytes(heap: Global, dice: &mut Dice, row: &[Station], deaths: u32) -> Result<Vec<u8>, AnyError> {
+fn stored_bytes(
+    heap: Global,
+    dice: &mut Dice,
+    row: &[Station],
+    deaths: u32,
+) -> Result<Vec<u8>, AnyError> {
     let mut roll = Roll::new();
     let mut bytes = Vec::new(heap);
     if roll.load(row).is_err() {
@@ -222,7 +298,11 @@ fn corner(region: Region, bounds: Region) -> Option<Measures> {
         m3: bounds.low.m3.max(region.low.m3),
         m4: bounds.low.m4.max(region.low.m4),
     };
-    if at.at_most(bounds.high) && at.at_most(region.high) { Some(at) } else { None }
+    if at.at_most(bounds.high) && at.at_most(region.high) {
+        Some(at)
+    } else {
+        None
+    }
 }
 
 // The key of a page that is called for: its corner is beaten by fewer than k stations in play.
@@ -237,7 +317,12 @@ fn called_key(seen: &Seen, ranking: &Ranker, question: Question, child: Child) -
     if beaters >= question.k as usize {
         return None;
     }
-    Some(Key { rank: ranking.rank(at), sum: at.sum(), kind: Kind::Page, number: child.page })
+    Some(Key {
+        rank: ranking.rank(at),
+        sum: at.sum(),
+        kind: Kind::Page,
+        number: child.page,
+    })
 }
 
 // The key that a halt names, or None at the top.
@@ -309,7 +394,14 @@ struct Counts {
 
 impl Counts {
     fn new() -> Counts {
-        Counts { done: 0, dead: 0, crowded: 0, full: 0, wrong: 0, opened: 0 }
+        Counts {
+            done: 0,
+            dead: 0,
+            crowded: 0,
+            full: 0,
+            wrong: 0,
+            opened: 0,
+        }
     }
 
     fn note(&mut self, ended: &Ended, right: bool) {
@@ -329,37 +421,110 @@ impl Counts {
     }
 
     fn print(&self, rt: &LibcRuntime, name: &str) -> Result<(), AnyError> {
-        let Counts { done, dead, crowded, full, wrong, opened } = self;
-        println!(rt, "{name}: {done} done, {dead} halted by a dead page, {crowded} by waiting, {full} by the list; {opened} pages opened; {wrong} wrong")?;
+        let Counts {
+            done,
+            dead,
+            crowded,
+            full,
+            wrong,
+            opened,
+        } = self;
+        println!(
+            rt,
+            "{name}: {done} done, {dead} halted by a dead page, {crowded} by waiting, {full} by the list; {opened} pages opened; {wrong} wrong"
+        )?;
         Ok(())
     }
 }
 
 // One row, one question and one ranking: over the roll, and over the stored book with some pages dead.
-fn compare_one(heap: Global, dice: &mut Dice, count: usize, rolls: &mut Counts, books: &mut Counts) -> Result<(), AnyError> {
+fn compare_row(
+    heap: Global,
+    dice: &mut Dice,
+    row: &[Station],
+    asked: Question,
+    ranker: Ranker,
+    rolls: &mut Counts,
+    books: &mut Counts,
+) -> Result<(), AnyError> {
+    let mut answer = row.to_vec(heap)?;
+    let Ok(found) = scan(row, asked, &ranker, answer.as_mut_slice()) else {
+        return Err("the list of the scan is too short".into());
+    };
+    answer.truncate(found);
+    let ended = over_roll(heap, row, ranker, asked)?;
+    let seen = look_roll(heap, row)?;
+    let by_rule = pages_by_rule(&seen, &ranker, asked, ended.fault);
+    rolls.note(
+        &ended,
+        begins(&ended, answer.as_slice()) && ended.pages == by_rule,
+    );
+    let deaths = dice.below(4);
+    let bytes = stored_bytes(heap, dice, row, deaths)?;
+    let ended = over_stored(heap, bytes.as_slice(), ranker, asked)?;
+    let seen = look_stored(heap, bytes.as_slice())?;
+    let by_rule = pages_by_rule(&seen, &ranker, asked, ended.fault);
+    books.note(
+        &ended,
+        begins(&ended, answer.as_slice()) && ended.pages == by_rule,
+    );
+    Ok(())
+}
+
+fn compare_one(
+    heap: Global,
+    dice: &mut Dice,
+    count: usize,
+    rolls: &mut Counts,
+    books: &mut Counts,
+) -> Result<(), AnyError> {
     let kind = dice.below(5);
     let row = stations(heap, dice, count, kind)?;
     let asked = question(dice, kind);
     let ranker = ranking(dice)?;
-    let mut answer = row.clone()?;
-    let Ok(found) = scan(row.as_slice(), asked, &ranker, answer.as_mut_slice()) else {
-        return Err("the list of the scan is too short".into());
-    };
-    answer.truncate(found);
-    let ended = over_roll(heap, row.as_slice(), ranker, asked)?;
-    let seen = look_roll(heap, row.as_slice())?;
-    let by_rule = pages_by_rule(&seen, &ranker, asked, ended.fault);
-    rolls.note(&ended, begins(&ended, answer.as_slice()) && ended.pages == by_rule);
-    let deaths = dice.below(4);
-    let bytes = stored_bytes(heap, dice, row.as_slice(), deaths)?;
-    let ended = over_stored(heap, bytes.as_slice(), ranker, asked)?;
-    let seen = look_stored(heap, bytes.as_slice())?;
-    let by_rule = pages_by_rule(&seen, &ranker, asked, ended.fault);
-    books.note(&ended, begins(&ended, answer.as_slice()) && ended.pages == by_rule);
-    Ok(())
+    compare_row(heap, dice, row.as_slice(), asked, ranker, rolls, books)
 }
 
-fn over_roll(heap: Global, row: &[Station], ranker: Ranker, asked: Question) -> Result<Ended, AnyError> {
+// A full row of which no station beats another, ranked by the measure that it rises by: the list is full before all are handed out.
+fn compare_full(
+    heap: Global,
+    dice: &mut Dice,
+    rolls: &mut Counts,
+    books: &mut Counts,
+) -> Result<(), AnyError> {
+    let row = stations(heap, dice, 1152, 3)?;
+    let zero = Measures {
+        m1: 0,
+        m2: 0,
+        m3: 0,
+        m4: 0,
+    };
+    let worst = Measures {
+        m1: 65_535,
+        m2: 65_535,
+        m3: 65_535,
+        m4: 65_535,
+    };
+    let asked = Question {
+        k: 1,
+        region: Region {
+            low: zero,
+            high: worst,
+        },
+    };
+    let Ok(weights) = Weights::new(1, 0, 0, 0) else {
+        return Err("a weight is too large".into());
+    };
+    let ranker = Ranker::Sum(WeightedSum { weights });
+    compare_row(heap, dice, row.as_slice(), asked, ranker, rolls, books)
+}
+
+fn over_roll(
+    heap: Global,
+    row: &[Station],
+    ranker: Ranker,
+    asked: Question,
+) -> Result<Ended, AnyError> {
     let mut roll = Roll::new();
     if roll.load(row).is_err() {
         return Err("the row is refused".into());
@@ -375,7 +540,12 @@ fn look_roll(heap: Global, row: &[Station]) -> Result<Seen, AnyError> {
     look(heap, roll)
 }
 
-fn over_stored(heap: Global, bytes: &[u8], ranker: Ranker, asked: Question) -> Result<Ended, AnyError> {
+fn over_stored(
+    heap: Global,
+    bytes: &[u8],
+    ranker: Ranker,
+    asked: Question,
+) -> Result<Ended, AnyError> {
     let mut book = Stored::new();
     if book.load(bytes).is_err() {
         return Err("the book is refused".into());
@@ -396,8 +566,15 @@ fn main(rt: LibcRuntime) -> Result<(), AnyError> {
     let mut rolls = Counts::new();
     let mut books = Counts::new();
     for i in 0..600u32 {
-        let count = if i % 30 == 0 { 1152 } else { dice.below(200) as usize };
+        let count = if i % 30 == 0 {
+            1152
+        } else {
+            dice.below(200) as usize
+        };
         compare_one(rt.alloc(), &mut dice, count, &mut rolls, &mut books)?;
+    }
+    for _ in 0..4 {
+        compare_full(rt.alloc(), &mut dice, &mut rolls, &mut books)?;
     }
     rolls.print(&rt, "rolls")?;
     books.print(&rt, "stored books")
