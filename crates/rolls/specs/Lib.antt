@@ -1,6 +1,5 @@
 pub mod Boxes
 pub mod Rolls
 pub mod Laws
-pub mod Facts
 pub mod Places
 pub mod Source

@@ -12,7 +12,7 @@ use Rattle.books.specs.Books.{Book}
 use Rattle.sources.specs.Sources.{SourceLaws}
 use Rattle.rolls.specs.declared.roll.Roll.{Roll}
 use Rattle.rolls.specs.Rolls.{rollBook}
-use Rattle.rolls.specs.Facts.{lawful-out}
+use Rattle.books.specs.Facts.{lawful-out}
 
 -- the row that the roll reads
 abbrev pub rowIn : Roll → List Station

@@ -1,14 +1,14 @@
 -- Counting, what holds of each element, and tests that pass.
-use mathlib.Core.Path.{_≡_, refl, sym, ap, _∙_}
-use mathlib.Core.Bool.{Bool, true, false, not, _&&_, _||_}
+use mathlib.Core.Path.{_≡_, refl}
+use mathlib.Core.Bool.{Bool, true, false, _&&_}
 use mathlib.Core.List.{List, [], _∷_, _++_}
-use Prim.Native.Nat.{ℕ, _+_, _≤_, _<_}
+use Prim.Native.Nat.{ℕ, _+_, _≤_}
 use native.Mathlib.Omega.{arith}
-use lib.Dec.{eqb, leb}
+use lib.Dec.{leb}
 use Rattle.std.specs.declared.option.Option.{Option}
 use Rattle.std.specs.declared.option.Option.the-variants.{Some, None}
-use Rattle.std.specs.shelf.Lists.{All, joined}
-use Rattle.std.proofs.shelf.Tests.{and-parts, or-parts, leb-true, leb-false, not-false}
+use Rattle.std.specs.shelf.Lists.{All}
+use Rattle.std.proofs.shelf.Tests.{and-parts, leb-true}
 use Rattle.stations.specs.declared.fault.Fault.{Fault}
 use Rattle.stations.specs.declared.measures.Measures.{Measures}
 use Rattle.stations.specs.Faults.{orElse, refuseIf}
@@ -30,6 +30,10 @@ all-of P h (x ∷ xs) = (h x, all-of P h xs)
 pub all-both : {A : Type 0} (P Q R : A → Type 0) → ((x : A) → P x → Q x → R x) → (xs : List A) → All P xs → All Q xs → All R xs
 all-both P Q R h [] ps qs = tt
 all-both P Q R h (x ∷ xs) ps qs = (h x (ps .0) (qs .0), all-both P Q R h xs (ps .1) (qs .1))
+
+-- nothing is not something
+pub never-some : {A X : Type 0} (x : X) → _≡_ {A = Option X} None (Some x) → A
+never-some x e = let z : _≡_ {A = ℕ} 0 1 = cc in let no-way : ⊥ = omega arith in absurd no-way
 
 -- neither of two checks refuses
 pub both-pass : (a b : Option Fault) → orElse a b ≡ None → (a ≡ None) × (b ≡ None)

@@ -1,12 +1,12 @@
 -- What a page keeps that is not refused, and so each page of a walk that passes.
-use mathlib.Core.Path.{_≡_, refl, sym, ap, _∙_, subst}
+use mathlib.Core.Path.{_≡_, refl, sym, ap, _∙_}
 use mathlib.Core.Bool.{Bool, true, false, not, _&&_, _||_, cond}
 use mathlib.Core.Logic.{_⊎_, inl, inr}
-use mathlib.Core.List.{List, [], _∷_, _++_, map}
-use Prim.Native.Nat.{ℕ, zero, suc, _+_, _*_, _≤_, _<_}
+use mathlib.Core.List.{List, [], _∷_}
+use Prim.Native.Nat.{ℕ, zero, suc, _+_, _*_, _≤_, _<_, _^_}
 use native.Mathlib.Omega.{arith}
 use lib.Dec.{eqb, leb}
-use lib.ListN.{length, getD}
+use lib.ListN.{length}
 use Rattle.std.specs.Iters.{counting}
 use Rattle.std.specs.declared.option.Option.{Option}
 use Rattle.std.specs.declared.option.Option.the-variants.{Some, None}
@@ -15,19 +15,18 @@ use Rattle.std.proofs.shelf.Tests.{and-parts, or-cases, leb-true, eqb-false, eq
 use Rattle.std.proofs.shelf.Lists.{append-nil}
 use Rattle.std.proofs.shelf.Elements.{all-map, all-weaker}
 use Rattle.std.proofs.shelf.Counted.{length-map-counting}
-use Rattle.stations.specs.declared.measures.Measures.{Measures}
 use Rattle.stations.specs.declared.station.Station.{Station}
-use Rattle.stations.specs.Beating.{_≼_}
+use Rattle.stations.specs.Beating.{Ordinary, _≼_}
 use Rattle.stations.specs.Counting.{bit, count}
 use Rattle.books.specs.declared.Child.{Child}
-use Rattle.books.specs.Books.{Slot, dead, leaf, node, level, size, stationsOn, childrenOn, IsLive, Inside, Nested, Fits, Filled, worst, names, numbered}
+use Rattle.books.specs.Books.{Slot, dead, level, size, stationsOn, childrenOn, IsLive, Inside, Nested, Fits, Filled, names, numbered}
 use Rattle.stored.specs.declared.naming.Naming.{Naming}
 use Rattle.stored.specs.Layout.{shortAt, measuresAt, stationAt, childAt, stationsIn, childrenIn, levelByte, countByte, isPadded, isMarkedDead, liveSlot, live}
-use Rattle.stored.specs.Notes.{Notes, noteOf, isNamed, naming, noteAll, occurs, notesAfter, numbersAfter}
+use Rattle.stored.specs.Notes.{Notes, noteOf, isNamed, naming, occurs, notesAfter, numbersAfter}
 use Rattle.stored.specs.Checks.{isFairHeader, isBelow, entriesFault, pageFault}
 use Rattle.stored.specs.Loading.{isLiveAt, slotAt, slotsFrom, visitFault, walkFault}
-use Rattle.stored.proofs.Counts.{both-pass, not-refused, all-of}
-use Rattle.stored.proofs.Passing.{Held, HeldBy, ChildrenPass, children-pass, StationsPass, stations-pass}
+use Rattle.stored.proofs.Counts.{never-some, both-pass, not-refused, all-of}
+use Rattle.stored.proofs.Passing.{HeldBy, children-pass, stations-pass}
 
 -- what the page p keeps, by what the pages before it say
 pub record Fair (pages p : ℕ) (notes : Notes) (numbers : List ℕ) (s : Slot) : Type 0 where
@@ -42,8 +41,8 @@ pub record Fair (pages p : ℕ) (notes : Notes) (numbers : List ℕ) (s : Slot) 
   pub noted : All (λ c. noteOf (notesAfter notes s) (c .page) ≡ Some (naming (level s) c)) (childrenOn s)
   pub long : length (notesAfter notes s) ≡ length notes
   pub ordered : All (λ c. (c .bounds .low) ≼ (c .bounds .high)) (childrenOn s)
-  pub boxes : All (λ c. (c .bounds .high) ≼ worst) (childrenOn s)
-  pub measures : All (λ t. (t .at) ≼ worst) (stationsOn s)
+  pub boxes : All (λ c. Ordinary (c .bounds .high)) (childrenOn s)
+  pub measures : All (λ t. Ordinary (t .at)) (stationsOn s)
   pub positive : All (λ t. 1 ≤ t .number) (stationsOn s)
   pub once : (n : ℕ) → bit (occurs n (numbersAfter numbers s)) ≡ bit (occurs n numbers) + count (numbered n) (stationsOn s)
 
@@ -67,11 +66,11 @@ dead-fair pages p notes numbers =
       once = λ n. let x = ap (λ ms. bit (occurs n ms)) (append-nil numbers) in omega arith;
     }
 
--- a number in two bytes is at most 65,535
-short-fits : (bytes : List ℕ) (i : ℕ) → shortAt bytes i ≤ 65535
+-- a number in two bytes has 16 bits
+short-fits : (bytes : List ℕ) (i : ℕ) → shortAt bytes i < 2 ^ 16
 short-fits bytes i = omega arith
 
-measures-fit : (bytes : List ℕ) (i : ℕ) → (measuresAt bytes i) ≼ worst
+measures-fit : (bytes : List ℕ) (i : ℕ) → Ordinary (measuresAt bytes i)
 measures-fit bytes i = record { in1 = short-fits bytes i; in2 = short-fits bytes (i + 2); in3 = short-fits bytes (i + 4); in4 = short-fits bytes (i + 6) }
 
 -- what a fair header says
@@ -92,7 +91,7 @@ headed p page e =
     by none (inr t) = let both = and-parts (eqb p 0) (eqb (levelByte page) 0) t in (eqb-true _ _ (both .0), eqb-true _ _ (both .1))
 
 below-from : (nm : Option Naming) (lv : ℕ) → isBelow nm lv ≡ true → (n : Naming) → nm ≡ Some n → n .level ≡ lv + 1
-below-from None lv e n is = let z : _≡_ {A = ℕ} 0 1 = cc in let no-way : ⊥ = omega arith in absurd no-way
+below-from None lv e n is = never-some n is
 below-from (Some m) lv e n is =
     let same : m ≡ n = cc in
     ap (λ (k : Naming). k .level) (sym same) ∙ eqb-true _ _ e
@@ -117,7 +116,7 @@ module _ (pages p : ℕ) (notes : Notes) (numbers page : List ℕ) (fit : pages 
         long = refl;
         ordered = tt;
         boxes = tt;
-        measures = all-map (λ (t : Station). (t .at) ≼ worst) (λ i. stationAt page (8 + 12 * i)) (counting 0 (countByte page)) (all-of (λ i. (measuresAt page (8 + 12 * i + 4)) ≼ worst) (λ i. measures-fit page (8 + 12 * i + 4)) (counting 0 (countByte page)));
+        measures = all-map (λ (t : Station). Ordinary (t .at)) (λ i. stationAt page (8 + 12 * i)) (counting 0 (countByte page)) (all-of (λ i. Ordinary (measuresAt page (8 + 12 * i + 4))) (λ i. measures-fit page (8 + 12 * i + 4)) (counting 0 (countByte page)));
         positive = ss .positive;
         once = ss .counted;
       }
@@ -136,7 +135,7 @@ module _ (pages p : ℕ) (notes : Notes) (numbers page : List ℕ) (fit : pages 
         noted = cs .noted;
         long = cs .long;
         ordered = cs .ordered;
-        boxes = all-map (λ (c : Child). (c .bounds .high) ≼ worst) (λ i. childAt page (8 + 18 * i)) (counting 0 (countByte page)) (all-of (λ i. (measuresAt page (8 + 18 * i + 10)) ≼ worst) (λ i. measures-fit page (8 + 18 * i + 10)) (counting 0 (countByte page)));
+        boxes = all-map (λ (c : Child). Ordinary (c .bounds .high)) (λ i. childAt page (8 + 18 * i)) (counting 0 (countByte page)) (all-of (λ i. Ordinary (measuresAt page (8 + 18 * i + 10))) (λ i. measures-fit page (8 + 18 * i + 10)) (counting 0 (countByte page)));
         measures = tt;
         positive = tt;
         once = λ n. let x = ap (λ ms. bit (occurs n ms)) (append-nil numbers) in omega arith;

@@ -1,27 +1,26 @@
 -- Bytes that are not refused spell a lawful book.
 use mathlib.Core.Path.{_≡_, refl, sym, ap, _∙_, subst}
-use mathlib.Core.Bool.{Bool, true, false, not, _||_}
+use mathlib.Core.Bool.{true, false, not, _||_}
 use mathlib.Core.Logic.{_⊎_, inl, inr}
-use mathlib.Core.List.{List, [], _∷_, _++_, map}
-use Prim.Native.Nat.{ℕ, zero, suc, _+_, _-_, _*_, _/_, _%_, _≤_, _<_}
+use mathlib.Core.List.{List, [], _∷_}
+use Prim.Native.Nat.{ℕ, zero, suc, _+_, _-_, _%_, _≤_, _<_}
 use native.Mathlib.Omega.{arith}
 use lib.Dec.{eqb, ltb}
-use lib.ListN.{length, getD, replicate}
+use lib.ListN.{length, getD}
 use Rattle.std.specs.declared.option.Option.{Option}
 use Rattle.std.specs.declared.option.Option.the-variants.{Some, None}
 use Rattle.std.specs.Options.{isSome}
 use Rattle.std.specs.shelf.Lists.{All, joined}
-use Rattle.std.proofs.shelf.Tests.{or-parts, ltb-false, eqb-true, not-false, cases-lt}
-use Rattle.std.proofs.shelf.Lists.{length-replicate, getD-replicate, getD-past}
+use Rattle.std.proofs.shelf.Tests.{or-parts, ltb-false, cases-lt}
+use Rattle.std.proofs.shelf.Lists.{getD-replicate, getD-past}
 use Rattle.std.proofs.shelf.Elements.{all-append}
 use Rattle.std.proofs.shelf.Counted.{length-map-counting}
 use Rattle.stations.specs.Counting.{bit, count}
-use Rattle.stations.specs.declared.station.Station.{Station}
 use Rattle.books.specs.declared.Child.{Child}
-use Rattle.books.specs.Books.{Slot, dead, leaf, node, Book, slot, level, size, stationsOn, childrenOn, IsLive, Fits, Filled, Lawful, names, numbered, named, stations}
+use Rattle.books.specs.Books.{Slot, dead, Book, slot, level, size, stationsOn, childrenOn, IsLive, Fits, Filled, Lawful, names, numbered, named, stations}
 use Rattle.stored.specs.declared.naming.Naming.{Naming}
 use Rattle.stored.specs.Notes.{Notes, noNotes, noteOf, isNamed, naming, notesAfter, numbersAfter, occurs}
-use Rattle.stored.specs.Loading.{pageCount, pageBytes, pagesIn, slotAt, slotsFrom, walkFault, lengthFault, loadFault, loads, spelledBook}
+use Rattle.stored.specs.Loading.{pageCount, pageBytes, pagesIn, slotAt, slotsFrom, lengthFault, loadFault, spelledBook}
 use Rattle.stored.proofs.Counts.{count-append, bit-le, all-both, both-pass, not-refused}
 use Rattle.stored.proofs.Fairness.{Fair, FairFrom, fair-walk}
 

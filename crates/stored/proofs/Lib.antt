@@ -8,3 +8,4 @@ pub mod Fairness
 pub mod Lawfulness
 pub mod Shown
 pub mod Soundness
+pub mod Spelling

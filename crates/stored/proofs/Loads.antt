@@ -1,17 +1,16 @@
 -- What the two checks of a load say of the whole.
-use mathlib.Core.Path.{_≡_, refl, sym, ap, _∙_}
+use mathlib.Core.Path.{_≡_, refl, sym, ap}
 use mathlib.Core.Bool.{not, cond}
 use mathlib.Core.List.{List, [], _∷_}
 use Prim.Native.Nat.{ℕ}
 use lib.ListN.{replicate}
-use Rattle.std.specs.declared.option.Option.{Option}
 use Rattle.std.specs.declared.option.Option.the-variants.{Some, None}
 use Rattle.std.specs.Options.{isSome}
 use Rattle.stations.specs.declared.fault.Fault.{Fault}
 use Rattle.stations.specs.Faults.{orElse}
 use Rattle.books.specs.Books.{leaf}
 use Rattle.stored.specs.Notes.{noNotes}
-use Rattle.stored.specs.Loading.{pageCount, pagesIn, slotsFrom, walkFault, lengthFault, loadFault, loads, spelledBook, marks}
+use Rattle.stored.specs.Loading.{pageCount, pagesIn, slotsFrom, walkFault, lengthFault, loadFault, loads, spelledBook}
 
 module _ (bytes : List ℕ) where
   pub length-refused : (f : Fault) → lengthFault bytes ≡ Some f → loadFault bytes ≡ Some f

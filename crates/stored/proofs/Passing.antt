@@ -1,29 +1,28 @@
 -- What the entries of a page keep where none is refused.
 use mathlib.Core.Path.{_≡_, refl, sym, ap, _∙_, subst}
-use mathlib.Core.Bool.{Bool, true, false, not, _&&_, _||_}
+use mathlib.Core.Bool.{Bool, true, false, _||_}
 use mathlib.Core.Logic.{_⊎_, inl, inr}
 use mathlib.Core.List.{List, [], _∷_, _++_, map}
 use Prim.Native.Nat.{ℕ, _+_, _≤_, _<_}
 use native.Mathlib.Omega.{arith}
 use lib.Dec.{eqb, leb}
-use lib.ListN.{length, getD, set}
+use lib.ListN.{length}
 use Rattle.std.specs.declared.option.Option.{Option}
 use Rattle.std.specs.declared.option.Option.the-variants.{Some, None}
 use Rattle.std.specs.Options.{isSome}
 use Rattle.std.specs.shelf.Lists.{All}
-use Rattle.std.proofs.shelf.Tests.{and-parts, or-parts, leb-true, leb-false, eqb-false, eqb-true, eq-eqb, ne-eqb, not-false, cases-eq}
+use Rattle.std.proofs.shelf.Tests.{and-parts, or-parts, leb-false, eqb-false, eq-eqb, ne-eqb, not-false, cases-eq, both-ways}
 use Rattle.std.proofs.shelf.Lists.{length-set, getD-set-same, getD-set-other, append-assoc, append-nil}
 use Rattle.stations.specs.declared.measures.Measures.{Measures}
 use Rattle.stations.specs.declared.station.Station.{Station}
-use Rattle.stations.specs.declared.region.Region.{Region}
 use Rattle.stations.specs.Beating.{_≼_, atMost}
 use Rattle.stations.specs.Counting.{bit, count}
 use Rattle.books.specs.declared.Child.{Child}
-use Rattle.books.specs.Books.{Inside, Nested, names, numbered}
+use Rattle.books.specs.Books.{names, numbered}
 use Rattle.stored.specs.declared.naming.Naming.{Naming}
 use Rattle.stored.specs.Notes.{Notes, noteOf, isNamed, naming, noteOne, noteAll, occurs}
 use Rattle.stored.specs.Checks.{isWithin, childFault, stationFault, childrenFault, stationsFault}
-use Rattle.stored.proofs.Counts.{both-pass, not-refused, within-from}
+use Rattle.stored.proofs.Counts.{never-some, both-pass, not-refused, within-from}
 
 -- what the low and the high of an entry keep by the box of its page
 pub record Held (n : Naming) (low high : Measures) : Type 0 where
@@ -34,7 +33,7 @@ abbrev pub HeldBy : Option Naming → Measures → Measures → Type 0
 HeldBy nm low high = (n : Naming) → nm ≡ Some n → Held n low high
 
 held-from : (nm : Option Naming) (low high : Measures) → isWithin nm low high ≡ true → HeldBy nm low high
-held-from None low high e n is = let z : _≡_ {A = ℕ} 0 1 = cc in let no-way : ⊥ = omega arith in absurd no-way
+held-from None low high e n is = never-some n is
 held-from (Some m) low high e n is =
     let same : m ≡ n = cc in
     let P : Naming → Type 0 = λ k. Held k low high in
@@ -69,8 +68,7 @@ note-kept l notes c fresh q n e = by (cases-eq q (c .page))
   where
     by : (q ≡ c .page) ⊎ (q ≡ c .page → ⊥) → noteOf (noteOne l notes c) q ≡ Some n
     by (inl same) =
-        let t : true ≡ false = sym (ap isSome (sym (ap (noteOf notes) same) ∙ e)) ∙ fresh in
-        let z : _≡_ {A = ℕ} 0 1 = cc in let no-way : ⊥ = omega arith in absurd no-way
+        absurd (both-ways (isNamed notes (c .page)) fresh (ap isSome (sym (ap (noteOf notes) same) ∙ e)))
     by (inr other) = getD-set-other notes (c .page) q (Some (naming l c)) None other ∙ e
 
 -- one more page is named

@@ -5,7 +5,6 @@ use mathlib.Core.Logic.{_⊎_, inl, inr}
 use mathlib.Core.List.{List, [], _∷_, _++_, map}
 use Prim.Native.Nat.{ℕ, zero, suc, _+_, _*_, _≤_, _<_}
 use native.Mathlib.Omega.{arith}
-use lib.Dec.{ltb}
 use lib.ListN.{length, getD, take, set}
 use Rattle.std.specs.Iters.{counting}
 use Rattle.std.specs.Orderings.{When}
@@ -19,9 +18,10 @@ use Rattle.stations.specs.declared.fault.Code.the-variants.{PageNumber, DeadPag
 use Rattle.stations.specs.Faults.{fault}
 use Rattle.books.specs.declared.Entry.{Entry}
 use Rattle.books.specs.declared.Entry.the-variants as entries
-use Rattle.books.specs.Books.{Slot, dead, leaf, node, Book, slot, level, size, isDead, Lawful}
+use Rattle.books.specs.Books.{Slot, dead, leaf, node, slot, level, size, isDead, Lawful}
 use Rattle.sources.specs.declared.page.Page.{Page}
-use Rattle.sources.specs.Sources.{entriesOn, Shows, Gives, Reads}
+use Rattle.books.specs.Books.{entriesOn}
+use Rattle.sources.specs.Sources.{Shows, Gives, Reads}
 use Rattle.stored.specs.Layout.{levelByte, countByte, stationAt, childAt, liveSlot, live}
 use Rattle.stored.specs.Notes.{Notes, noNotes, notesAfter}
 use Rattle.stored.specs.Loading.{pageCount, pageBytes, pagesIn, isLiveAt, slotAt, slotsFrom, spelledBook, marks}

@@ -3,40 +3,38 @@ use mathlib.Core.Path.{_≡_, refl, sym, ap, _∙_, subst}
 use mathlib.Core.Bool.{Bool, true, false, not, _&&_, _||_, cond}
 use mathlib.Core.Logic.{_⊎_, inl, inr}
 use mathlib.Core.List.{List, [], _∷_, _++_, map}
-use Prim.Native.Nat.{ℕ, zero, suc, _+_, _-_, _*_, _/_, _%_, _≤_, _<_}
+use Prim.Native.Nat.{ℕ, zero, suc, _+_, _%_, _≤_, _<_}
 use native.Mathlib.Omega.{arith}
 use lib.Dec.{eqb, leb, ltb}
-use lib.ListN.{length, getD, set}
-use Rattle.std.specs.Iters.{counting}
+use lib.ListN.{length, getD}
 use Rattle.std.specs.declared.option.Option.{Option}
 use Rattle.std.specs.declared.option.Option.the-variants.{Some, None}
 use Rattle.std.specs.declared.result.Result.{Result}
-use Rattle.std.specs.declared.result.Result.the-variants.{Ok, Err}
+use Rattle.std.specs.declared.result.Result.the-variants.{Err}
 use Rattle.std.specs.Options.{isSome}
 use Rattle.std.specs.Orderings.{Decides}
 use Rattle.std.specs.Results.{isOk}
-use Rattle.std.specs.shelf.Lists.{All, joined}
-use Rattle.std.proofs.shelf.Tests.{and-from, and-parts, or-from, or-left, or-right, or-parts, le-leb, lt-leb, eq-eqb, ne-eqb, eqb-true, ltb-false, le-ltb, not-false, not-true, not-from-true, not-from-false, cases-eq, cases-lt, cases-bool, both-ways}
+use Rattle.std.specs.shelf.Lists.{All}
+use Rattle.std.proofs.shelf.Tests.{and-from, and-parts, or-from, or-left, or-right, or-parts, le-leb, lt-leb, eq-eqb, ne-eqb, eqb-true, ltb-false, le-ltb, not-false, not-from-true, not-from-false, cases-eq, cases-lt, both-ways}
 use Rattle.std.proofs.shelf.Lists.{getD-set-same, getD-set-other, getD-past, set-past}
 use Rattle.std.proofs.shelf.Elements.{all-weaker}
-use Rattle.std.proofs.shelf.Counted.{length-map-counting, getD-map-counting}
+use Rattle.std.proofs.shelf.Counted.{getD-map-counting}
 use Rattle.stations.specs.declared.fault.Fault.{Fault}
 use Rattle.stations.specs.declared.measures.Measures.{Measures}
 use Rattle.stations.specs.declared.station.Station.{Station}
-use Rattle.stations.specs.declared.region.Region.{Region}
 use Rattle.stations.specs.Faults.{refuseIf, orElse}
 use Rattle.stations.specs.Beating.{_≼_, atMost}
 use Rattle.stations.specs.Counting.{bit, count}
 use Rattle.books.specs.declared.Child.{Child}
-use Rattle.books.specs.Books.{Slot, dead, leaf, node, Book, slot, level, size, stationsOn, childrenOn, stations, named, IsLive, Inside, Nested, Fits, Filled, names, numbered, Lawful}
+use Rattle.books.specs.Books.{Slot, dead, Book, slot, level, size, stationsOn, childrenOn, stations, named, IsLive, Inside, Nested, Fits, Filled, names, numbered, Lawful}
 use Rattle.stored.specs.declared.naming.Naming.{Naming}
-use Rattle.stored.specs.Layout.{levelByte, countByte, isPadded, isMarkedDead, stationAt, childAt, stationsIn, childrenIn, liveSlot, live}
+use Rattle.stored.specs.Layout.{levelByte, countByte, isPadded, stationsIn, childrenIn, liveSlot, live}
 use Rattle.stored.specs.Notes.{Notes, noNotes, noteOf, isNamed, naming, noteOne, noteAll, occurs, notesAfter, numbersAfter}
-use Rattle.stored.specs.Checks.{isFairHeader, isBelow, isWithin, childFault, stationFault, childrenFault, stationsFault, entriesFault, pageFault}
+use Rattle.stored.specs.Checks.{isFairHeader, isBelow, isWithin, childrenFault, stationsFault, entriesFault, pageFault}
 use Rattle.stored.specs.Loading.{pageCount, pageBytes, pagesIn, isLiveAt, slotAt, slotsFrom, visitFault, walkFault, lengthFault, loadFault, spelledBook}
 use Rattle.stored.specs.Soundness.{Sound}
 use Rattle.stored.proofs.Steps.{passes-on}
-use Rattle.stored.proofs.Counts.{count-append, bit-le, all-of, both-pass, not-refused}
+use Rattle.stored.proofs.Counts.{never-some, count-append, bit-le, all-of, both-pass, not-refused}
 use Rattle.stored.proofs.Shown.{level-is, size-is}
 use Rattle.stored.proofs.Lawfulness.{spelled-length, spelled-lawful, none-named}
 
@@ -334,4 +332,4 @@ module _ (bytes : List ℕ) where
   -- a refusal is given only where the bytes are not sound
   pub refused-unsound : (r : Result (Unit {0}) Fault) (f : Fault) → r ≡ Err f → loadFault bytes ≡ Some f → Decides (isOk r) (Sound bytes)
   refused-unsound r f is e =
-      ((λ ok. absurd (both-ways (isOk r) (ap isOk is) ok)), λ h. let x = sound-loads h in let z : _≡_ {A = ℕ} 0 1 = cc in let no-way : ⊥ = omega arith in absurd no-way)
+      ((λ ok. absurd (both-ways (isOk r) (ap isOk is) ok)), λ h. never-some f (sym (sound-loads h) ∙ e))

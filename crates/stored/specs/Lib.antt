@@ -4,7 +4,7 @@ pub mod Listed
 pub mod Checks
 pub mod Loading
 pub mod Soundness
+pub mod Spelling
 pub mod Visits
 pub mod Showing
-pub mod Facts
 pub mod Meaning

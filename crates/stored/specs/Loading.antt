@@ -6,7 +6,7 @@ use lib.Dec.{eqb, ltb}
 use lib.ListN.{length, take, drop}
 use Rattle.std.specs.Iters.{counting}
 use Rattle.std.specs.declared.option.Option.{Option}
-use Rattle.std.specs.declared.option.Option.the-variants.{Some, None}
+use Rattle.std.specs.declared.option.Option.the-variants.{None}
 use Rattle.std.specs.Options.{isSome}
 use Rattle.stations.specs.declared.fault.Fault.{Fault}
 use Rattle.stations.specs.declared.fault.Code.the-variants.{BookLength}
@@ -16,9 +16,11 @@ use Rattle.stored.specs.Layout.{isMarkedDead, live}
 use Rattle.stored.specs.Notes.{Notes, noNotes, noteOf, isNamed, notesAfter, numbersAfter}
 use Rattle.stored.specs.Checks.{pageFault}
 
+-- how many whole pages there are
 abbrev pub pageCount : List ℕ → ℕ
 pageCount bytes = length bytes / 256
 
+-- the bytes of page p
 abbrev pub pageBytes : List ℕ → ℕ → List ℕ
 pageBytes bytes p = take 256 (drop (256 * p) bytes)
 
@@ -26,11 +28,11 @@ pageBytes bytes p = take 256 (drop (256 * p) bytes)
 abbrev pub pagesIn : List ℕ → List (List ℕ)
 pagesIn bytes = map (pageBytes bytes) (counting 0 (pageCount bytes))
 
--- the page counts, since it is the top or a page before it names it, and it is not dead
+-- the page counts, since it is the top or a page that counts names it, and it is not dead
 abbrev pub isLiveAt : Notes → ℕ → List ℕ → Bool
 isLiveAt notes p page = (eqb p 0 || isNamed notes p) && not (isMarkedDead page)
 
--- a page that does not count is as good as dead
+-- the slot of page p: as its bytes spell it, or dead where it is dead or does not count
 abbrev pub slotAt : Notes → ℕ → List ℕ → Slot
 slotAt notes p page = cond (isLiveAt notes p page) (live page) dead
 

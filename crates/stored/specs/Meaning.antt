@@ -4,13 +4,14 @@ use native.Mathlib.Omega.{arith}
 use Rattle.books.specs.Books.{Book}
 use Rattle.sources.specs.Sources.{SourceLaws}
 use Rattle.stored.specs.declared.stored.Stored.{Stored}
-use Rattle.stored.specs.Facts.{lawful-out}
+use Rattle.books.specs.Facts.{lawful-out}
 use Rattle.stored.specs.Loading.{spelledBook, pageCount}
 
 -- the book that its bytes spell
 abbrev pub bookOf : Stored → Book
 bookOf s = spelledBook (s .bytes .now)
 
+-- how many pages it has
 abbrev pub pagesOf : Stored → ℕ
 pagesOf s = pageCount (s .bytes .now)
 

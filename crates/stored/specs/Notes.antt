@@ -1,5 +1,5 @@
 -- What the pages checked so far say: how each page was named, and which station numbers occurred.
-use mathlib.Core.Bool.{Bool, true, false, _||_, cond}
+use mathlib.Core.Bool.{Bool, false, _||_}
 use mathlib.Core.List.{List, [], _∷_, _++_, map}
 use Prim.Native.Nat.{ℕ}
 use lib.Dec.{eqb}
@@ -15,9 +15,11 @@ use Rattle.stored.specs.declared.naming.Naming.{Naming}
 abbrev pub Notes : Type 0
 Notes = List (Option Naming)
 
+-- nothing is said yet
 abbrev pub noNotes : Notes
 noNotes = replicate 256 None
 
+-- what is said of page p
 abbrev pub noteOf : Notes → ℕ → Option Naming
 noteOf notes p = getD notes p None
 
@@ -29,9 +31,11 @@ isNamed notes p = isSome (noteOf notes p)
 abbrev pub naming : ℕ → Child → Naming
 naming l c = record { level = l; bounds = c .bounds }
 
+-- the notes after one named page
 abbrev pub noteOne : ℕ → Notes → Child → Notes
 noteOne l notes c = set notes (c .page) (Some (naming l c))
 
+-- the notes after the named pages of a page of level l, one after the other
 abbrev pub noteAll : ℕ → Notes → List Child → Notes
 noteAll l notes [] = notes
 noteAll l notes (c ∷ cs) = noteAll l (noteOne l notes c) cs

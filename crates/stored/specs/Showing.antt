@@ -4,7 +4,7 @@ use Prim.Native.Nat.{ℕ, zero, suc, _+_, _*_}
 use Rattle.std.specs.Iters.{counting}
 use Rattle.books.specs.declared.Entry.{Entry}
 use Rattle.books.specs.declared.Entry.the-variants as entries
-use Rattle.stored.specs.Layout.{stationAt, childAt, countByte, levelByte}
+use Rattle.stored.specs.Layout.{stationAt, childAt, levelByte}
 
 -- entry i of a page of this level
 abbrev pub entryAt : ℕ → List ℕ → ℕ → Entry

@@ -5,7 +5,7 @@ ghost use Prim.Native.Nat.{_+_, _<_, _≤_};
 ghost use lib.ListN.{length};
 ghost use Rattle.stations.specs.Faults.{verdict, fault};
 ghost use Rattle.std.specs.declared.result.Result.the-variants.{Ok};
-ghost use Rattle.stored.specs.Layout.{levelByte, countByte, stationsIn, childrenIn, isPadded, live};
+ghost use Rattle.stored.specs.Layout.{countByte, stationsIn, childrenIn, isPadded, live};
 ghost use Rattle.stored.specs.Notes.{noteAll, notesAfter, numbersAfter};
 ghost use Rattle.stored.specs.Listed.{listed};
 ghost use Rattle.stored.specs.Checks.{isFairHeader, isBelow, isWithin, childFault, stationFault, childrenFault, stationsFault, entriesFault, pageFault};

@@ -2,7 +2,7 @@
 ghost use mathlib.Core.Path.{_≡_};
 ghost use Prim.Native.Nat.{_+_, _≤_};
 ghost use lib.ListN.{length};
-ghost use Rattle.stored.specs.Layout.{byteAt, shortAt, longAt, measuresAt, stationAt, childAt};
+ghost use Rattle.stored.specs.Layout.{shortAt, longAt, measuresAt, stationAt, childAt};
 use books::Child;
 use stations::Measures;
 use stations::Region;

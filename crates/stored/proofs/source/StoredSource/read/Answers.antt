@@ -1,11 +1,11 @@
-use mathlib.Core.Path.{_≡_, refl, sym, ap, _∙_, subst}
+use mathlib.Core.Path.{_≡_, refl, sym, _∙_, subst}
 use Prim.Native.Nat.{_+_, _-_, _*_, _≤_}
 use native.Mathlib.Omega.{arith}
-use lib.ListN.{length, take, drop, length-take, length-drop}
+use lib.ListN.{take, drop, length-take, length-drop}
 use Rattle.sources.specs.Sources.{Shows}
 use Rattle.stored.specs.Layout.{countByte, live}
 use Rattle.stored.specs.Loading.{spelledBook}
-use Rattle.stored.specs.Facts.{lawful-out}
+use Rattle.books.specs.Facts.{lawful-out}
 use Rattle.stored.proofs.Shown.{mark-at, reads-dead, reads-live, few-entries}
 use Rattle.stored.proofs.source.StoredSource.read.Needs as need
 
