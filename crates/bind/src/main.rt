@@ -1,4 +1,5 @@
 // Reads a log from standard input, and writes the stored book of its stations to standard output.
+ghost use Rattle.bind.specs.Binding.{Binds};
 use logs::read_log;
 use stations::Fault;
 use stations::MOST_STATIONS;
@@ -34,11 +35,14 @@ const NO_KEY: CodeKey = CodeKey {
 };
 
 // Writes the book of the log's stations, and answers how many bytes it has.
-fn bind_log(text: &[u8], book: &mut [u8]) -> Result<usize, Fault> {
+fn bind_log(text: &[u8], book: &mut [u8]) -> Result<usize, Fault>
+    ensures { λ r. ⌜ Binds (now (text .entry)) (now (book .entry)) (now (book .exit)) r ⌝ }
+{
     let mut row = [NOWHERE; MOST_STATIONS];
     let mut work = [NO_KEY; MOST_STATIONS];
-    let stations = read_log(text, &mut row)?.count;
-    write_book(&row[0..stations], &mut work, book)
+    let log = read_log(text, &mut row)?;
+    let count = log.count;
+    write_book(&row[0..count], &mut work, book)
 }
 
 fn main(rt: LibcRuntime) -> Result<(), AnyError> {
