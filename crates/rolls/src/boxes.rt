@@ -28,7 +28,7 @@ fn widen(bounds: Region, at: Measures) -> Region
     }
 }
 
-pub fn around(stations: &[Station]) -> Region
+pub(crate) fn around(stations: &[Station]) -> Region
     requires { ⌜ 1 ≤ length (now stations) ⌝ }
     ensures { λ r. ⌜ r ≡ leastAround (now (stations .entry)) ⌝ }
 {

@@ -7,7 +7,7 @@ ghost use Rattle.rolls.specs.Rolls.{span as spanOf, pagesOf, topLevel, pageCou
 const SPANS: [usize; 3] = [12, 144, 1728];
 
 // The places of the row that a page of the level spans.
-pub fn span(level: usize) -> usize
+pub(crate) fn span(level: usize) -> usize
     requires { ⌜ level ≤ 2 ⌝ }
     ensures { λ r. ⌜ r ≡ spanOf level ⌝ }
 {
@@ -15,7 +15,7 @@ pub fn span(level: usize) -> usize
 }
 
 // How many pages of the level a row of so many stations makes; an empty row still makes one.
-pub fn pages_of(len: usize, level: usize) -> usize
+pub(crate) fn pages_of(len: usize, level: usize) -> usize
     requires { ⌜ level ≤ 2 ⌝ }
     ensures { λ r. ⌜ r ≡ pagesOf len level ⌝ }
 {
@@ -23,7 +23,7 @@ pub fn pages_of(len: usize, level: usize) -> usize
 }
 
 // The lowest level that has one page.
-pub fn top_level(len: usize) -> usize
+pub(crate) fn top_level(len: usize) -> usize
     ensures { λ r. ⌜ r ≡ topLevel len ⌝ }
 {
     if pages_of(len, 0) == 1 {
@@ -36,7 +36,7 @@ pub fn top_level(len: usize) -> usize
 }
 
 // How many pages a row of so many stations makes.
-pub fn page_count(len: usize) -> usize
+pub(crate) fn page_count(len: usize) -> usize
     requires { ⌜ len ≤ mostStations ⌝ }
     ensures { λ r. ⌜ r ≡ pageCount len ⌝ }
 {

@@ -10,7 +10,7 @@ fn measure(at: Measures)
 {}
 
 // Does nothing: a row's measures are known to fit only where each is taken in hand.
-pub fn measure_all(row: &[Station])
+pub(crate) fn measure_all(row: &[Station])
     ensures { λ _. ⌜ All (λ s. Ordinary (s .at)) (now (row .entry)) ⌝ }
 {
     for s in row {

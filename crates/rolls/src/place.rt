@@ -11,14 +11,14 @@ use stations::Station;
 
 // The page's level, its index there, and the number of the first page of the level below.
 #[derive(Clone, Copy)]
-pub struct Place {
+pub(crate) struct Place {
     pub level: usize,
     pub index: usize,
     pub below: usize,
 }
 
 // Finds a page by its number, from the top level down.
-pub fn place_of(row: &[Station], page: usize) -> Option<Place>
+pub(crate) fn place_of(row: &[Station], page: usize) -> Option<Place>
     requires { ⌜ length (now row) ≤ mostStations ⌝ }
     ensures { λ r. ⌜ BySome r (pageCount (length (now (row .entry))) ≤ page) (Stands (now (row .entry)) page) ⌝ }
 {

@@ -98,7 +98,7 @@ fn node(row: &[Station], level: usize, below: usize, index: usize) -> Page
 }
 
 // The page at a place.
-pub fn page_at(row: &[Station], place: Place) -> Page
+pub(crate) fn page_at(row: &[Station], place: Place) -> Page
     requires few { ⌜ length (now row) ≤ mostStations ⌝ }
     requires low { ⌜ place .level ≤ topLevel (length (now row)) ⌝ }
     requires there { ⌜ place .index < pagesOf (length (now row)) (place .level) ⌝ }
