@@ -1,3 +1,4 @@
+#![tactic(auto)]
 // Reads a stored book from the file that is named, and a question from standard input, and prints the stations handed out
 // and how the search ended.
 use anyhow::anyhow;

@@ -1,3 +1,4 @@
+#![tactic(auto)]
 // Reads a log from standard input, and writes the stored book of its stations to standard output.
 use anyhow::anyhow;
 use binding::bind_log;

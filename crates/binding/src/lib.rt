@@ -1,3 +1,4 @@
+#![tactic(auto)]
 // From a log's text to the stored book of its stations.
 ghost use Rattle.binding.specs.Binding.{Binds};
 

@@ -1,3 +1,4 @@
+#![tactic(auto)]
 // Loads every book of standard input and prints its pages, and prints the pages of rolls of telling lengths. A book stands behind a line with its length.
 use books::{Child, Entry};
 use rolls::Roll;

@@ -1,3 +1,4 @@
+#![tactic(auto)]
 // Books: what the pages of a tree hold, and what a lawful book is.
 use stations::{Region, Station};
 

@@ -1,3 +1,4 @@
+#![tactic(auto)]
 // Worked cases, proved against the definitions.
 ghost use Rattle.cases.specs.Cases.{WorkedCases};
 

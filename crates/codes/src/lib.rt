@@ -1,3 +1,4 @@
+#![tactic(auto)]
 // The 64-bit code of four measures, by a table that spreads a byte.
 ghost use Rattle.std.specs.Prelude.{◌≡◌, ◌*◌, ◌^◌, ◌<◌};
 ghost use Rattle.codes.specs.Codes.{spread, code_of, Interleaved, Alone};

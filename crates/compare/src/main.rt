@@ -1,3 +1,4 @@
+#![tactic(auto)]
 // Compares the search with the plain scan, over rolls and over stored books with dead pages, and prints how the searches ended.
 use anyhow::anyhow;
 use books::{Child, Entry};

@@ -1,3 +1,4 @@
+#![tactic(auto)]
 // A log as text: a line with the question, and one for each station.
 mod field;
 mod law;

@@ -1,3 +1,4 @@
+#![tactic(auto)]
 // The picker for C: calls on byte slices that the caller lends. Nothing is kept between calls, and nothing is allocated.
 ghost use Rattle.std.specs.Prelude.{◌≡◌};
 ghost use Rattle.panel.specs.Replies.{log_reply, book_reply, BookBound, LogPicked, BookAsked};

@@ -1,3 +1,4 @@
+#![tactic(auto)]
 // Reads a log from standard input, asks its question of the roll of its stations, and prints the stations handed out and
 // how the search ended.
 use anyhow::anyhow;

@@ -1,3 +1,4 @@
+#![tactic(auto)]
 // What the picker prints: a question asked of a book and driven to its end.
 ghost use Rattle.std.specs.Prelude.{◌≡◌, Some, None};
 ghost use Rattle.rankings.specs.Scores.{ranker_score};

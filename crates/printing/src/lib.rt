@@ -1,3 +1,4 @@
+#![tactic(auto)]
 // The printed form of an answer, and of a refusal, into a lent buffer.
 ghost use Rattle.std.specs.Prelude.{◌≡◌, ℕ, ◌+◌, ◌≤◌, List, [], length, decimal, nat_le};
 ghost use Rattle.printing.specs.Printed.{numbered, station_numbers, fault_numbers, closing_line, listing, refusal, Wrote, Printed};

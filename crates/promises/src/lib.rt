@@ -1,3 +1,4 @@
+#![tactic(auto)]
 // What a search promises, as theorems over the model of a book. Each stands on the contract of a call that does nothing
 // else.
 ghost use Rattle.promises.specs.Bands.{BandsKeepLaws, BandsAnswer};

@@ -1,3 +1,4 @@
+#![tactic(auto)]
 // Rankings: what a station's measures are worth, as one number. Small is good.
 ghost use Rattle.std.specs.Prelude.{◌≡◌, ℕ, ◌*◌, ◌^◌, ◌<◌, ◌≤◌, MatchResult};
 ghost use Rattle.stations.specs.declared.measures.Measures.{Measures};

@@ -1,3 +1,4 @@
+#![tactic(auto)]
 // What the plain scan prints of a log.
 ghost use Rattle.std.specs.Prelude.{◌≤◌, length};
 ghost use Rattle.stations.specs.Rows.{most_stations};

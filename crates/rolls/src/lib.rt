@@ -1,3 +1,4 @@
+#![tactic(auto)]
 // Rolls: a row of stations read as a book, without one being made.
 ghost use Rattle.rolls.specs.Laws.{RowsMakeBooks, RowsMakePages};
 

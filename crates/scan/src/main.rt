@@ -1,3 +1,4 @@
+#![tactic(auto)]
 // Reads a log from standard input, and prints the stations that fewer than k others beat in the region asked for, by
 // comparing every station with every other.
 use anyhow::anyhow;

@@ -1,3 +1,4 @@
+#![tactic(auto)]
 // The search: the stations of a question, one at a time in key order, with as few pages opened as the question can be settled by.
 mod call;
 mod calls;

@@ -1,3 +1,4 @@
+#![tactic(auto)]
 // Page sources: where a search gets its pages from, by what they mean.
 ghost use Rattle.std.specs.Prelude.{◌≡◌, ℕ, ◌+◌, ◌%◌, ◌^◌};
 ghost use Rattle.books.specs.Books.{Book};

@@ -1,3 +1,4 @@
+#![tactic(auto)]
 // The words of the subject: measures, stations, regions, questions, keys and faults.
 mod fault;
 mod key;

@@ -1,3 +1,4 @@
+#![tactic(auto)]
 // Stored books: pages of 256 bytes that are loaded, checked and read page by page.
 ghost use Rattle.stored.specs.Spelling.{PagesSpellBooks, PagesDecide};
 

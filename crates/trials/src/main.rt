@@ -1,3 +1,4 @@
+#![tactic(auto)]
 // Runs every log of standard input through the report, and prints what it prints. A log stands behind a line with its length.
 use printing::Report;
 use rankings::Weights;

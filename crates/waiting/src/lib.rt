@@ -1,3 +1,4 @@
+#![tactic(auto)]
 // What waits and what is listed in a search: the entries that wait in a heap by key, the stations listed in order, and the tests of entries against them.
 mod entries;
 mod fills;

@@ -1,3 +1,4 @@
+#![tactic(auto)]
 // Writes the roll of a row, in code order, as a stored book.
 ghost use Rattle.writer.specs.Writing.{WrittenBooksReadBack};
 
