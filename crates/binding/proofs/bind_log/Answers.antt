@@ -6,12 +6,12 @@ use Rattle.binding.specs.Binding.{Binds}
 use Rattle.binding.proofs.Bound.{bound}
 use Rattle.binding.proofs.bind_log.Goals as goal
 
-pub returns-in-err-log : goal.returns-in-err-log
-returns-in-err-log c =
-    let p = err_from_is_err_and c.from-residual.result c.from-residual.ensures.1 in
-    subst (Binds c.args.text.now c.args.book.now c.args.book.now) (sym (p.1 ∙ ap Err p.2)) (inl c.in-err-log.ensures.refused, refl)
+pub returns-in_err-log : goal.returns-in_err-log
+returns-in_err-log c =
+    let p = err_from_is_err_and c.from_residual.result c.from_residual.ensures.1 in
+    subst (Binds c.args.text.now c.args.book.now c.args.book.now) (sym (p.1 ∙ ap Err p.2)) (inl c.in_err-log.ensures.refused, refl)
 
 pub returns : goal.returns
 returns c =
     let work : List CodeKey = replicate most_stations (record { code = 0; number = 0; place = 0 }) in
-    bound c.in-ok-log.ensures work c.write-book.new.work c.args.book.now c.write-book.new.book refl c.write-book.result c.write-book.ensures
+    bound c.in_ok-log.ensures work c.write_book.new.work c.args.book.now c.write_book.new.book refl c.write_book.result c.write_book.ensures

@@ -16,7 +16,7 @@ returns-in-Ok-load c =
     let k = asked a a.accepted bytes fine (book_of c.load.new.self) (loaded bytes (book_of c.new-stored.result) (book_of c.load.new.self) fine c.load.ensures.book) in
     record {
       promised = ask_promises bytes c.args.text.now;
-      prints = prints_as _ _ _ _ c.args.print.now c.print-search.new.print c.print-search.result k.0 k.1 c.print-search.ensures.prints;
+      prints = prints_as _ _ _ _ c.args.print.now c.print_search.new.print c.print_search.result k.0 k.1 c.print_search.ensures.prints;
     }
 
 pub returns-in-Err : goal.returns-in-Err

@@ -24,8 +24,8 @@ returns g c =
     let p = c.start.ensures.produces rank b [] nothing 0 (c.new-run.ensures.produces 0) in
     let d = c.drive-end.ensures.driven rank b _ _ _ p in
     let t = c.tally-pages.ensures.produced rank b _ d.stands _ d.produces in
-    let k = searched g.S.PageSource.book g.S.PageSource.meter ranker_score rank b c.args.question c.start.result _ c.start.new.self p c.in-default.not-Err c.drive-end.result c.drive-end.new.self d c.tally-pages.result.0 t.0 c.listed.result.now c.listed.ensures.fields in
+    let k = searched g.S.PageSource.book g.S.PageSource.meter ranker_score rank b c.args.question c.start.result _ c.start.new.self p c.in_default.not-Err c.drive-end.result c.drive-end.new.self d c.tally-pages.result.0 t.0 c.listed.result.now c.listed.ensures.fields in
     record {
       promised = keeps_promises rank b c.args.question (ranker_rises c.args.ranking) (g.S.PageSource.laws.lawful c.args.source);
-      prints = prints_as _ _ _ _ c.args.print.now c.print-end.new.print c.print-end.result k.0 k.1 c.print-end.ensures;
+      prints = prints_as _ _ _ _ c.args.print.now c.print_end.new.print c.print_end.result k.0 k.1 c.print_end.ensures;
     }

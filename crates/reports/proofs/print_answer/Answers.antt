@@ -6,16 +6,16 @@ use Rattle.printing.specs.Printed.{closing_line, listing, Printed}
 use Rattle.scans.proofs.Listing.{answer-short}
 use Rattle.reports.proofs.print_answer.Goals as goal
 
-pub returns-in-err-n : goal.returns-in-err-n
-returns-in-err-n c =
-    absurd (omega (arith, answer-short (ranker_score c.args.log.now.ranking) c.args.log.now.question c.args.row.now, c.in-err-n.ensures.1, c.requires))
+pub returns-in_err-n : goal.returns-in_err-n
+returns-in_err-n c =
+    absurd (omega (arith, answer-short (ranker_score c.args.log.now.ranking) c.args.log.now.question c.args.row.now, c.in_err-n.ensures.1, c.requires))
 
-pub slice-bounds-print-listing-end : goal.slice-bounds-print-listing-end
-slice-bounds-print-listing-end c =
-    let m : c.in-ok-n.n ≤ 1152 = omega (arith, answer-short (ranker_score c.args.log.now.ranking) c.args.log.now.question c.args.row.now, c.in-ok-n.ensures.0, c.requires) in
+pub slice_bounds-print_listing-end : goal.slice_bounds-print_listing-end
+slice_bounds-print_listing-end c =
+    let m : c.in_ok-n.n ≤ 1152 = omega (arith, answer-short (ranker_score c.args.log.now.ranking) c.args.log.now.question c.args.row.now, c.in_ok-n.ensures.0, c.requires) in
     search rules
 
 pub returns : goal.returns
 returns c =
-    let e = ap (λ k. take k c.scan.new.list) (sub-zero c.in-ok-n.n) ∙ c.in-ok-n.ensures.1 in
-    subst (λ found. Printed (listing (ranker_score c.args.log.now.ranking) (closing_line Complete) found) c.args.print.now c.print-listing.new.out c.print-listing.result) e c.print-listing.ensures
+    let e = ap (λ k. take k c.scan.new.list) (sub-zero c.in_ok-n.n) ∙ c.in_ok-n.ensures.1 in
+    subst (λ found. Printed (listing (ranker_score c.args.log.now.ranking) (closing_line Complete) found) c.args.print.now c.print_listing.new.out c.print_listing.result) e c.print_listing.ensures

@@ -12,5 +12,5 @@ returns-in-Comma c =
       | inr is ↦ (let r = subst (Reads text at) is.1 c.in-Some.ensures in sym (front-end text at r.1 r.2))
     ]
 
-pub returns-in-default : goal.returns-in-default
-returns-in-default c = sym (front_past c.args.line.now c.args.«at» c.in-default.ensures)
+pub returns-in_default : goal.returns-in_default
+returns-in_default c = sym (front_past c.args.line.now c.args.«at» c.in_default.ensures)

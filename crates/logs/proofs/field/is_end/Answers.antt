@@ -7,4 +7,4 @@ pub returns-then-at-line : goal.returns-then-at-line
 returns-then-at-line c = sym (at_drop_all is_end c.args.line.now c.args.«at» c.if-at-line.true)
 
 pub returns : goal.returns
-returns c = c.is-part.ensures ∙ sym (at_drop_more is_end c.args.line.now c.args.«at» 0 c.if-at-line.false)
+returns c = c.is_part.ensures ∙ sym (at_drop_more is_end c.args.line.now c.args.«at» 0 c.if-at-line.false)

@@ -9,7 +9,7 @@ pub returns-then-not-admits : goal.returns-then-not-admits
 returns-then-not-admits c =
     let within : c.loop-j.j < length c.args.numbers.now = omega arith in
     let e = left_fail admits OutOfRange c.args.number c.args.kinds.now c.args.numbers.now c.loop-j.j 0 c.loop-j-test.true within (sym c.if-not-admits.ensures) in
-    ap Err c.field-fault.ensures ∙ ap verdict (sym e ∙ c.loop-j.invariant)
+    ap Err c.field_fault.ensures ∙ ap verdict (sym e ∙ c.loop-j.invariant)
 
 pub loop-j-preserved : goal.loop-j-preserved
 loop-j-preserved c =

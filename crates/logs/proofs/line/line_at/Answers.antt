@@ -28,4 +28,4 @@ returns-in-LineEnd c =
     subst (λ (end : ℕ). Found c.args.text.now c.args.start (between c.args.start end c.args.text.now) (c.loop-token.commas + 1) end) (sym reads.0) found
 
 pub returns : goal.returns
-returns c = scan_past c.args.text.now c.args.start c.loop-token.«at» c.loop-token.commas c.loop-token.invariant c.in-default.ensures
+returns c = scan_past c.args.text.now c.args.start c.loop-token.«at» c.loop-token.commas c.loop-token.invariant c.in_default.ensures

@@ -4,10 +4,10 @@ use Rattle.stations.specs.Faults.{verdict}
 use Rattle.logs.proofs.Fields.{going_fail, going_more, going_all}
 use Rattle.logs.proofs.line.read_fields.Goals as goal
 
-pub returns-in-default : goal.returns-in-default
-returns-in-default c =
-    let fail = going_fail c.args.number c.args.line.now c.args.kinds.now c.loop-j.numbers c.loop-j.j c.loop-j.«at» c.requires.free c.requires.fields c.loop-j-test.true c.loop-j.invariant c.in-default.ensures in
-    record { value = ap Err c.field-fault.ensures ∙ ap verdict (sym fail); after = λ h. absurd (false≢true h) }
+pub returns-in_default : goal.returns-in_default
+returns-in_default c =
+    let fail = going_fail c.args.number c.args.line.now c.args.kinds.now c.loop-j.numbers c.loop-j.j c.loop-j.«at» c.requires.free c.requires.fields c.loop-j-test.true c.loop-j.invariant c.in_default.ensures in
+    record { value = ap Err c.field_fault.ensures ∙ ap verdict (sym fail); after = λ h. absurd (false≢true h) }
 
 pub loop-j-preserved : goal.loop-j-preserved
 loop-j-preserved c =

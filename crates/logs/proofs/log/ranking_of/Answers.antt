@@ -5,23 +5,23 @@ use Rattle.logs.specs.declared.field.FieldKind.TheVariants.{Letter}
 use Rattle.logs.proofs.Ranges.{pass-at, weights-small}
 use Rattle.logs.proofs.log.ranking_of.Goals as goal
 
-pub overflow-cast-weights : goal.overflow-cast-weights
-overflow-cast-weights c = omega (arith, (weights-small c.args.numbers.now c.requires.admitted c.requires.long).0)
+pub overflow_cast-weights : goal.overflow_cast-weights
+overflow_cast-weights c = omega (arith, (weights-small c.args.numbers.now c.requires.admitted c.requires.long).0)
 
-pub overflow-cast-weights-2 : goal.overflow-cast-weights-2
-overflow-cast-weights-2 c = omega (arith, (weights-small c.args.numbers.now c.requires.admitted c.requires.long).1)
+pub overflow_cast-weights-2 : goal.overflow_cast-weights-2
+overflow_cast-weights-2 c = omega (arith, (weights-small c.args.numbers.now c.requires.admitted c.requires.long).1)
 
-pub overflow-cast-weights-3 : goal.overflow-cast-weights-3
-overflow-cast-weights-3 c = omega (arith, (weights-small c.args.numbers.now c.requires.admitted c.requires.long).2)
+pub overflow_cast-weights-3 : goal.overflow_cast-weights-3
+overflow_cast-weights-3 c = omega (arith, (weights-small c.args.numbers.now c.requires.admitted c.requires.long).2)
 
-pub overflow-cast-weights-4 : goal.overflow-cast-weights-4
-overflow-cast-weights-4 c = omega (arith, (weights-small c.args.numbers.now c.requires.admitted c.requires.long).3)
+pub overflow_cast-weights-4 : goal.overflow_cast-weights-4
+overflow_cast-weights-4 c = omega (arith, (weights-small c.args.numbers.now c.requires.admitted c.requires.long).3)
 
-pub invariant-of-weights : goal.invariant-of-weights
-invariant-of-weights c = (weights-small c.args.numbers.now c.requires.admitted c.requires.long, tt)
+pub invariant_of-weights : goal.invariant_of-weights
+invariant_of-weights c = (weights-small c.args.numbers.now c.requires.admitted c.requires.long, tt)
 
-pub invariant-of-weights-else-numbers : goal.invariant-of-weights-else-numbers
-invariant-of-weights-else-numbers c = (weights-small c.args.numbers.now c.requires.admitted c.requires.long, tt)
+pub invariant_of-weights-else-numbers : goal.invariant_of-weights-else-numbers
+invariant_of-weights-else-numbers c = (weights-small c.args.numbers.now c.requires.admitted c.requires.long, tt)
 
 pub returns-then-numbers : goal.returns-then-numbers
 returns-then-numbers c = record { letter = omega arith; weights = refl }

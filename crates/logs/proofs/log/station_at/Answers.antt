@@ -8,11 +8,11 @@ use Rattle.logs.proofs.log.station_at.Goals as goal
 
 pub returns : goal.returns
 returns c =
-    let ns = c.fields-at.new.numbers in
-    let walked = c.in-ok-end.ensures in
+    let ns = c.fields_at.new.numbers in
+    let walked = c.in_ok-end.ensures in
     let none = verdict-ok (field_fault admits OutOfRange c.args.number 1 station_line ns) c.in-Ok.ensures in
     record {
       found = walked.found;
-      accepted = walked-fine c.args.number c.args.text.now c.args.«at» station_line ns c.in-ok-end.end walked none;
-      says = c.station-of.ensures ∙ ap station_of walked.numbers;
+      accepted = walked-fine c.args.number c.args.text.now c.args.«at» station_line ns c.in_ok-end.end walked none;
+      says = c.station_of.ensures ∙ ap station_of walked.numbers;
     }

@@ -10,17 +10,17 @@ loop-i-preserved c =
     let page = c.args.page.now in
     let i = c.loop-i.i in
     let few = c.requires.1 in
-    let fit = c.type-inv.page 1 in (
-      entries-more page c.loop-i.entries i c.entry-at.result (omega arith) c.entry-at.ensures c.loop-i.invariant.0,
-      length-set c.loop-i.entries i c.entry-at.result ∙ c.loop-i.invariant.1,
+    let fit = c.type_inv.page 1 in (
+      entries-more page c.loop-i.entries i c.entry_at.result (omega arith) c.entry_at.ensures c.loop-i.invariant.0,
+      length-set c.loop-i.entries i c.entry_at.result ∙ c.loop-i.invariant.1,
     )
 
 pub returns : goal.returns
 returns c =
     let page = c.args.page.now in
     let i = c.loop-i.i in
-    let level-fits = c.type-inv.page 0 in
-    let count_fits = c.type-inv.page 1 in
+    let level-fits = c.type_inv.page 0 in
+    let count_fits = c.type_inv.page 1 in
     let done : get_or page 1 0 ≡ i = omega arith in
     let all : i ≡ count_byte page = omega arith in
     let lv : get_or page 0 0 ≡ level_byte page = omega arith in

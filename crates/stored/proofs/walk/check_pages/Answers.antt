@@ -12,12 +12,12 @@ pub loop-p-init : goal.loop-p-init
 loop-p-init c =
     (ap (λ ns. walk_fault (page_count c.args.bytes.now) 0 no_notes ns (pages_in c.args.bytes.now)) c.new-numbers.ensures.none, refl, omega arith, refl)
 
-pub returns-in-err-live : goal.returns-in-err-live
-returns-in-err-live c =
+pub returns-in_err-live : goal.returns-in_err-live
+returns-in_err-live c =
     let bytes = c.args.bytes.now in
     let p = c.loop-p.p in
-    let q = err_from_is_err_and c.from-residual.result c.from-residual.ensures.1 in
-    let e = visit-failed _ _ _ (sym c.visit.ensures.answer ∙ c.in-err-live.was) in
+    let q = err_from_is_err_and c.from_residual.result c.from_residual.ensures.1 in
+    let e = visit-failed _ _ _ (sym c.visit.ensures.answer ∙ c.in_err-live.was) in
     let w = walk_failed bytes p c.loop-p.notes (listed c.loop-p.numbers) c.loop-p-test.true (256 * p + 256 - 256 * p) (omega arith) _ e in
     let r = q.1 ∙ ap Err q.2 in
     record { answer = r ∙ ap verdict (sym w ∙ c.loop-p.invariant.0); marked = never_both _ _ r }
@@ -27,12 +27,12 @@ loop-p-preserved c =
     let bytes = c.args.bytes.now in
     let p = c.loop-p.p in
     let full : 256 * p + 256 - 256 * p ≡ 256 = omega arith in
-    let fine = ap is_ok c.in-ok-live.was in
-    let e = visit-passed _ _ _ (sym c.visit.ensures.answer ∙ c.in-ok-live.was) in
+    let fine = ap is_ok c.in_ok-live.was in
+    let e = visit-passed _ _ _ (sym c.visit.ensures.answer ∙ c.in_ok-live.was) in
     let noted = c.visit.ensures.noted fine in (
       walk_on bytes p c.loop-p.notes (listed c.loop-p.numbers) c.loop-p-test.true (256 * p + 256 - 256 * p) full c.visit.new.notes noted (listed c.visit.new.numbers) e.0 (c.visit.ensures.listed fine)
           ∙ c.loop-p.invariant.0,
-      marks-on bytes p c.loop-p.notes (listed c.loop-p.numbers) c.loop-p-test.true (256 * p + 256 - 256 * p) full c.visit.new.notes noted c.loop-p.live c.in-ok-live.field-0 (omega arith) e.1
+      marks-on bytes p c.loop-p.notes (listed c.loop-p.numbers) c.loop-p-test.true (256 * p + 256 - 256 * p) full c.visit.new.notes noted c.loop-p.live c.in_ok-live.field-0 (omega arith) e.1
           ∙ c.loop-p.invariant.1,
       omega arith,
       omega arith,

@@ -7,19 +7,19 @@ use Rattle.writer.proofs.Writes.{row-refused, short-refused, none-refused, stora
 use Rattle.writer.proofs.book.write_book.Goals as goal
 use Rattle.writer.proofs.book.write_book.Goals.{then-work-row-via-then-work-row, then-work-row-via-else-work-row+then-book-pages}
 
-pub returns-in-err-pages : goal.returns-in-err-pages
-returns-in-err-pages c =
+pub returns-in_err-pages : goal.returns-in_err-pages
+returns-in_err-pages c =
     let row = c.args.row.now in
     let work = c.args.work.now in
     let book = c.args.book.now in
-    let p = err_from_is_err_and c.from-residual.result c.from-residual.ensures.1 in
+    let p = err_from_is_err_and c.from_residual.result c.from_residual.ensures.1 in
     subst (Writes row work work book book) (sym (p.1 ∙ ap Err p.2))
-    (row-refused row (length work) (length book) c.in-err-pages.field-0.0 c.in-err-pages.ensures, refl, refl)
+    (row-refused row (length work) (length book) c.in_err-pages.field-0.0 c.in_err-pages.ensures, refl, refl)
 
 pub returns-then-work-row : goal.returns-then-work-row
 returns-then-work-row c =
     let row = c.args.row.now in
-    let counted = c.in-ok-pages.ensures in
+    let counted = c.in_ok-pages.ensures in
     let many = counted.1 in
     let short : (length c.args.work.now < length row) ⊎ (length c.args.book.now < 256 * length (roll_book row)) =
     elim c.then-work-row.branch [
@@ -28,29 +28,29 @@ returns-then-work-row c =
     ] in
     (short-refused row (length c.args.work.now) (length c.args.book.now) counted.0 short, refl, refl)
 
-pub write-pages-requires : goal.write-pages-requires
-write-pages-requires c =
+pub write_pages-requires : goal.write_pages-requires
+write_pages-requires c =
     let row = c.args.row.now in
-    let counted = c.in-ok-pages.ensures in
+    let counted = c.in_ok-pages.ensures in
     let many = counted.1 in
     let all : length row - 0 ≡ length row = omega arith in
-    let sorted = take (length row - 0) c.sort-by-code.new.sorted in
-    let order : sorted ≡ code_order row = ap (λ n. take n c.sort-by-code.new.sorted) all ∙ c.sort-by-code.ensures.order in
-    let fine = storable row counted.0 c.sort-by-code.ensures.numbers c.sort-by-code.ensures.measures in
+    let sorted = take (length row - 0) c.sort_by_code.new.sorted in
+    let order : sorted ≡ code_order row = ap (λ n. take n c.sort_by_code.new.sorted) all ∙ c.sort_by_code.ensures.order in
+    let fine = storable row counted.0 c.sort_by_code.ensures.numbers c.sort_by_code.ensures.measures in
     let same = order-pages row sorted order in
     record { fine = order-fine row sorted fine order; room = omega arith }
 
 pub returns : goal.returns
 returns c =
     let row = c.args.row.now in
-    let counted = c.in-ok-pages.ensures in
+    let counted = c.in_ok-pages.ensures in
     let many = counted.1 in
     let all : length row - 0 ≡ length row = omega arith in
-    let sorted = take (length row - 0) c.sort-by-code.new.sorted in
-    let order : sorted ≡ code_order row = ap (λ n. take n c.sort-by-code.new.sorted) all ∙ c.sort-by-code.ensures.order in
-    let fine = storable row counted.0 c.sort-by-code.ensures.numbers c.sort-by-code.ensures.measures in
+    let sorted = take (length row - 0) c.sort_by_code.new.sorted in
+    let order : sorted ≡ code_order row = ap (λ n. take n c.sort_by_code.new.sorted) all ∙ c.sort_by_code.ensures.order in
+    let fine = storable row counted.0 c.sort_by_code.ensures.numbers c.sort_by_code.ensures.measures in
     let places : length row ≤ length c.args.work.now = c.if-work-row.false in
     let bytes : 256 * length (roll_book row) ≤ length c.args.book.now = omega arith in (
       none-refused row (length c.args.work.now) (length c.args.book.now) counted.0 places bytes,
-      written row sorted c.args.work.now c.sort-by-code.new.work c.args.book.now c.write-pages.new.book c.in-ok-pages.pages fine order many c.write-pages.ensures.bytes c.write-pages.ensures.after c.sort-by-code.ensures.kept,
+      written row sorted c.args.work.now c.sort_by_code.new.work c.args.book.now c.write_pages.new.book c.in_ok-pages.pages fine order many c.write_pages.ensures.bytes c.write_pages.ensures.after c.sort_by_code.ensures.kept,
     )

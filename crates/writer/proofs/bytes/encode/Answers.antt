@@ -13,7 +13,7 @@ returns c =
     let room : page.len ≤ length page.entries = omega arith in
     let counted = length-take-le page.len page.entries room in
     let whole : page.len - 0 ≡ page.len = omega arith in
-    c.put-entries.ensures
+    c.put_entries.ensures
     ∙ ap (λ k. paste (page.level ∷ page.len ∷ replicate 254 0) 8 (flat_map entry_bytes (take k page.entries)) (length (flat_map entry_bytes (take k page.entries)))) whole
     ∙ encoded page.level page.len (flat_map entry_bytes es)
     ∙ ap (λ n. filled (page.level ∷ n ∷ 0 ∷ 0 ∷ 0 ∷ 0 ∷ 0 ∷ 0 ∷ flat_map entry_bytes es)) (sym counted)

@@ -15,11 +15,11 @@ returns c =
     let room : i ≤ length d = omega arith in
     let lows = measures_bytes child.bounds.low in
     let highs = measures_bytes child.bounds.high in
-    let two = put_next d _ _ i _ (short_bytes (n % 65536)) lows 2 8 c.put-short.ensures c.put-measures.ensures refl refl refl room in
+    let two = put_next d _ _ i _ (short_bytes (n % 65536)) lows 2 8 c.put_short.ensures c.put_measures.ensures refl refl refl room in
     record {
       end = refl;
       put =
-          put_next d _ _ i _ (short_bytes (n % 65536) ++ lows) highs 10 8 two c.put-measures-2.ensures refl refl refl room
+          put_next d _ _ i _ (short_bytes (n % 65536) ++ lows) highs 10 8 two c.put_measures-2.ensures refl refl refl room
           ∙ ap (λ x. paste d i ((x ∷ n % 65536 % 256 ∷ []) ++ lows ++ highs) 18) low
           ∙ ap (λ x. paste d i ((n / 256 % 256 ∷ x ∷ []) ++ lows ++ highs) 18) last;
     }

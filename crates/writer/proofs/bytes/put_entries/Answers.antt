@@ -10,8 +10,8 @@ pub loop-entry-preserved : goal.loop-entry-preserved
 loop-entry-preserved c =
     let room : 8 ≤ length c.args.bytes.now = omega arith in
     let below : c.loop-entry.entry-index < length c.args.entries.now = omega arith in
-    put-more c.args.entries.now c.loop-entry.entry-index _ below (get_or_default c.args.entries.now c.loop-entry.entry-index _ _ below) c.args.bytes.now c.loop-entry.bytes c.put-entry-at.new.bytes c.loop-entry.at c.put-entry-at.result room
-    c.loop-entry.invariant.0 c.loop-entry.invariant.1 c.loop-entry.invariant.2 c.put-entry-at.ensures.end c.put-entry-at.ensures.put
+    put-more c.args.entries.now c.loop-entry.entry-index _ below (get_or_default c.args.entries.now c.loop-entry.entry-index _ _ below) c.args.bytes.now c.loop-entry.bytes c.put_entry-at.new.bytes c.loop-entry.at c.put_entry-at.result room
+    c.loop-entry.invariant.0 c.loop-entry.invariant.1 c.loop-entry.invariant.2 c.put_entry-at.ensures.end c.put_entry-at.ensures.put
 
 pub returns : goal.returns
 returns c =

@@ -10,5 +10,5 @@ returns c =
     let room : c.args.at ≤ length d = omega arith in
     record {
       end = refl;
-      put = put_next d _ _ c.args.at _ (long_bytes s.number) (measures_bytes s.at) 4 8 c.put-long.ensures c.put-measures.ensures refl refl refl room;
+      put = put_next d _ _ c.args.at _ (long_bytes s.number) (measures_bytes s.at) 4 8 c.put_long.ensures c.put_measures.ensures refl refl refl room;
     }

@@ -3,8 +3,8 @@ use Rattle.stations.specs.Rows.{row_fault}
 use Rattle.rolls.proofs.Accepting.{passed, sound, carried}
 use Rattle.rolls.proofs.roll.Roll.load.Goals as goal
 
-pub invariant-of-self : goal.invariant-of-self
-invariant-of-self c =
-    let s = sound c.args.row.now (passed (row_fault c.args.row.now) (sym c.check-row.ensures ∙ c.in-ok-check-row.was)) c.measure-all.ensures in
+pub invariant_of-self : goal.invariant_of-self
+invariant_of-self c =
+    let s = sound c.args.row.now (passed (row_fault c.args.row.now) (sym c.check_row.ensures ∙ c.in_ok-check_row.was)) c.measure_all.ensures in
     let h = carried c.args.row.now s in
     (s.few, (h.0, (h.1, (h.2, (c.args.self.now.metered, tt)))))

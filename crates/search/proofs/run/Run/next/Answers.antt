@@ -10,7 +10,7 @@ pub returns-in-None : goal.returns-in-None
 returns-in-None g c =
     record {
       unchanged = record { same = refl; counted = refl; ranking = refl };
-      produces = λ rank b h stood m p. subst (λ f. Produces g.S.PageSource.book g.S.PageSource.meter g.R.Ranking.score rank b (h ++ nexted (Err f) ∷ []) (after_next stood) m c.args.self.now) (sym c.no-search.ensures) (next-none g.S.PageSource.book g.S.PageSource.meter g.R.Ranking.score rank b h stood m c.args.self.now p c.in-None.is);
+      produces = λ rank b h stood m p. subst (λ f. Produces g.S.PageSource.book g.S.PageSource.meter g.R.Ranking.score rank b (h ++ nexted (Err f) ∷ []) (after_next stood) m c.args.self.now) (sym c.no_search.ensures) (next-none g.S.PageSource.book g.S.PageSource.meter g.R.Ranking.score rank b h stood m c.args.self.now p c.in-None.is);
     }
 
 pub returns-in-Done : goal.returns-in-Done
@@ -34,5 +34,5 @@ returns-in-Searching g c =
     let k = c.search-reply.ensures.kept in
     record {
       unchanged = record { same = k.source.same; counted = k.source.counted; ranking = k.source.ranking };
-      produces = λ rank b h stood m p. next-searching g.S.PageSource.book g.S.PageSource.meter g.R.Ranking.score rank b g.S.PageSource.pages h stood m c.args.self.now _ c.search-reply.result p c.in-Searching.is record { source = record { same = k.source.same; counted = k.source.counted; ranking = k.source.ranking }; question = k.question; metered = k.metered } c.phase-after-self.ensures c.search-reply.ensures.gives;
+      produces = λ rank b h stood m p. next-searching g.S.PageSource.book g.S.PageSource.meter g.R.Ranking.score rank b g.S.PageSource.pages h stood m c.args.self.now _ c.search-reply.result p c.in-Searching.is record { source = record { same = k.source.same; counted = k.source.counted; ranking = k.source.ranking }; question = k.question; metered = k.metered } c.phase_after-self.ensures c.search-reply.ensures.gives;
     }

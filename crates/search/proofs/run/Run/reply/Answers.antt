@@ -12,7 +12,7 @@ returns-in-Some g c =
 
 pub loop-reply-preserved : goal.loop-reply-preserved
 loop-reply-preserved g c =
-    let o = c.in-default.ensures in
+    let o = c.in_default.ensures in
     let i = c.loop-reply.invariant in (
       runs.kept_then g.S.PageSource.book g.S.PageSource.pages g.S.PageSource.meter g.R.Ranking.score c.args.self.now c.loop-reply.self c.turn.new.self i.0 o.kept,
       runs.comes-on g.S.PageSource.book g.S.PageSource.pages g.S.PageSource.meter g.R.Ranking.score c.args.self.now c.loop-reply.self c.turn.new.self i.0 i.1 o.turns,

@@ -6,14 +6,14 @@ use Rattle.search.proofs.Runs as runs
 use Rattle.search.proofs.Runs.{popped_used}
 use Rattle.search.proofs.run.Run.turn.Goals as goal
 
-pub returns-in-default : goal.returns-in-default
-returns-in-default g c =
+pub returns-in_default : goal.returns-in_default
+returns-in_default g c =
     let r = c.args.self.now in
     record {
       kept = record { source = record { same = refl; counted = refl; ranking = refl }; question = refl; metered = λ m h. h };
       phase = refl;
       falls = tt;
-      turns = λ u h. runs.ended g.S.PageSource.book g.S.PageSource.pages g.S.PageSource.meter g.R.Ranking.score g.S.PageSource.laws g.met.R.Ranking.monotone r u h (held c.pop.new.self) c.in-default.ensures.0;
+      turns = λ u h. runs.ended g.S.PageSource.book g.S.PageSource.pages g.S.PageSource.meter g.R.Ranking.score g.S.PageSource.laws g.met.R.Ranking.monotone r u h (held c.pop.new.self) c.in_default.ensures.0;
     }
 
 pub returns-then-not-passes : goal.returns-then-not-passes

@@ -10,8 +10,8 @@ occurs-last : (n : ℕ) (ms : List ℕ) (m : ℕ) → occurs n (ms ++ m ∷ []) 
 occurs-last n [] m h = ⊎_elim (λ e. inr (eqb-true _ _ e)) (λ e. inl e) (or_cases _ _ h)
 occurs-last n (k ∷ ks) m h = ⊎_elim (λ e. inl (or_left _ _ e)) (λ later. ⊎_elim (λ e. inl (or_right _ _ e)) (λ e. inr e) (occurs-last n ks m later)) (or_cases _ _ h)
 
-pub invariant-of-self : goal.invariant-of-self
-invariant-of-self c =
+pub invariant_of-self : goal.invariant_of-self
+invariant_of-self c =
     let old = c.args.self.now in
     let number = c.args.number in
     let room : old.len < length old.all = search rules in

@@ -14,8 +14,8 @@ returns-then-not-self-p c =
     let mark = mark-at bytes p c.if-page-self.false s.live s.sized s.marked in
     record { answer = reads-dead bytes p c.if-page-self.false (sym mark ∙ c.if-not-self-p.true); metered = refl; same = refl; counted = refl }
 
-pub page-at-requires : goal.page-at-requires
-page-at-requires c =
+pub page_at-requires : goal.page_at-requires
+page_at-requires c =
     let s = c.args.self.now in
     let bytes = s.bytes.now in
     let p = c.args.page in
@@ -32,7 +32,7 @@ returns c =
     let full : 256 * p + 256 - 256 * p ≡ 256 = omega arith in
     let mark = mark-at bytes p c.if-page-self.false s.live s.sized s.marked in
     record {
-      answer = reads_live bytes p c.if-page-self.false (sym mark ∙ c.if-not-self-p.false) c.page-at.result (subst (λ n. Shows (live (take n (drop (256 * p) bytes))) c.page-at.result) full c.page-at.ensures);
+      answer = reads_live bytes p c.if-page-self.false (sym mark ∙ c.if-not-self-p.false) c.page_at.result (subst (λ n. Shows (live (take n (drop (256 * p) bytes))) c.page_at.result) full c.page_at.ensures);
       metered = refl;
       same = refl;
       counted = refl;

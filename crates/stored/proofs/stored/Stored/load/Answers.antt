@@ -9,11 +9,11 @@ use Rattle.stored.proofs.Lawfulness.{spelled-length, fair_length, spelled-lawful
 use Rattle.stored.proofs.Soundness.{loads-sound, refused_unsound}
 use Rattle.stored.proofs.stored.Stored.load.Goals as goal
 
-pub returns-in-err-check-length : goal.returns-in-err-check-length
-returns-in-err-check-length c =
+pub returns-in_err-check_length : goal.returns-in_err-check_length
+returns-in_err-check_length c =
     let bytes = c.args.bytes.now in
-    let p = err_from_is_err_and c.from-residual.result c.from-residual.ensures.1 in
-    let e = length-refused bytes _ (failed _ _ (sym c.check-length.ensures ∙ c.in-err-check-length.was)) in
+    let p = err_from_is_err_and c.from_residual.result c.from_residual.ensures.1 in
+    let e = length-refused bytes _ (failed _ _ (sym c.check_length.ensures ∙ c.in_err-check_length.was)) in
     let r = p.1 ∙ ap Err p.2 in
     record {
       answer = r ∙ ap verdict (sym e);
@@ -23,12 +23,12 @@ returns-in-err-check-length c =
       meter = refl;
     }
 
-pub returns-in-err-check-pages : goal.returns-in-err-check-pages
-returns-in-err-check-pages c =
+pub returns-in_err-check_pages : goal.returns-in_err-check_pages
+returns-in_err-check_pages c =
     let bytes = c.args.bytes.now in
-    let p = err_from_is_err_and c.from-residual-in-err-check-pages.result c.from-residual-in-err-check-pages.ensures.1 in
-    let fine = passed _ (sym c.check-length.ensures ∙ c.in-ok-check-length.was) in
-    let e = pages_decide bytes fine ∙ failed _ _ (sym c.check-pages.ensures.answer ∙ c.in-err-check-pages.was) in
+    let p = err_from_is_err_and c.from_residual-in_err-check_pages.result c.from_residual-in_err-check_pages.ensures.1 in
+    let fine = passed _ (sym c.check_length.ensures ∙ c.in_ok-check_length.was) in
+    let e = pages_decide bytes fine ∙ failed _ _ (sym c.check_pages.ensures.answer ∙ c.in_err-check_pages.was) in
     let r = p.1 ∙ ap Err p.2 in
     record {
       answer = r ∙ ap verdict (sym e);
@@ -38,19 +38,19 @@ returns-in-err-check-pages c =
       meter = refl;
     }
 
-pub invariant-of-self : goal.invariant-of-self
-invariant-of-self c =
+pub invariant_of-self : goal.invariant_of-self
+invariant_of-self c =
     let bytes = c.args.bytes.now in
-    let fine = passed _ (sym c.check-length.ensures ∙ c.in-ok-check-length.was) in
-    let e = pages_decide bytes fine ∙ passed _ (sym c.check-pages.ensures.answer ∙ c.in-ok-check-pages.was) in
+    let fine = passed _ (sym c.check_length.ensures ∙ c.in_ok-check_length.was) in
+    let e = pages_decide bytes fine ∙ passed _ (sym c.check_pages.ensures.answer ∙ c.in_ok-check_pages.was) in
     let many = fair_length bytes fine in
-    (many.0, (many.1, (spelled-length bytes, (∣ spelled-lawful bytes e ∣₁, (c.check-pages.ensures.marked c.in-ok-check-pages.was ∙ ap marks (spelled_is bytes), (omega arith, tt))))))
+    (many.0, (many.1, (spelled-length bytes, (∣ spelled-lawful bytes e ∣₁, (c.check_pages.ensures.marked c.in_ok-check_pages.was ∙ ap marks (spelled_is bytes), (omega arith, tt))))))
 
 pub returns : goal.returns
 returns c =
     let bytes = c.args.bytes.now in
-    let fine = passed _ (sym c.check-length.ensures ∙ c.in-ok-check-length.was) in
-    let e = pages_decide bytes fine ∙ passed _ (sym c.check-pages.ensures.answer ∙ c.in-ok-check-pages.was) in
+    let fine = passed _ (sym c.check_length.ensures ∙ c.in_ok-check_length.was) in
+    let e = pages_decide bytes fine ∙ passed _ (sym c.check_pages.ensures.answer ∙ c.in_ok-check_pages.was) in
     record {
       answer = ap verdict (sym e);
       sound = ((λ _. loads-sound bytes e), λ _. refl);
