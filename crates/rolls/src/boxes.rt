@@ -1,6 +1,6 @@
 // The least box around stations.
 ghost use Rattle.std.specs.Prelude.{◌≡◌, ◌≤◌, length};
-ghost use Rattle.rolls.specs.Boxes.{widen as widened, around as leastAround};
+ghost use Rattle.rolls.specs.Boxes.{widen as widened, around as least_around};
 
 use stations::{Measures, Region, Station};
 
@@ -27,7 +27,7 @@ fn widen(bounds: Region, at: Measures) -> Region
 
 pub(crate) fn around(stations: &[Station]) -> Region
     requires { 1 ≤ length stations.now }
-    ensures { result ≡ leastAround stations.now }
+    ensures { result ≡ least_around stations.now }
 {
     let at = stations[0].at;
     let mut bounds = Region { low: at, high: at };

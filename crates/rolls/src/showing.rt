@@ -2,7 +2,7 @@
 ghost use Rattle.std.specs.Prelude.{◌≡◌, suc, ◌<◌, ◌≤◌, length};
 ghost use Rattle.stations.specs.Rows.{most_stations};
 ghost use Rattle.sources.specs.Sources.{Shows};
-ghost use Rattle.rolls.specs.Rolls.{part, span as span_of, pages_of, top_level, page_count, child as childOf, page_at};
+ghost use Rattle.rolls.specs.Rolls.{part, span as span_of, pages_of, top_level, page_count, child as child_of, page_at};
 
 use crate::boxes::around;
 use crate::levels::{pages_of, span};
@@ -62,7 +62,7 @@ fn child(row: &[Station], level: usize, first: usize, index: usize) -> Child
     requires low { level ≤ 2 }
     requires there { index < pages_of (length row.now) level }
     requires near { first ≤ 105 }
-    ensures { result ≡ childOf row.now level first index }
+    ensures { result ≡ child_of row.now level first index }
 {
     Child {
         page: (first + index) as u32,
