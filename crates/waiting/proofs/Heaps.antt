@@ -1,12 +1,10 @@
 -- The heap's words, as what waits says them.
-use Rattle.std.proofs.Common.{◌≡◌, ℕ, ◌+◌, ◌-◌, Bool, true, false, cond, ◌&&◌, ◌||◌, eqb, ltb, List, ◌∷◌, length, take, Ordering, Less, Equal, Greater, sym, refl, ap, ◌∙◌, subst}
+use Rattle.std.proofs.Common.{◌≡◌, ℕ, ◌+◌, ◌-◌, Bool, true, false, cond, ◌&&◌, ◌||◌, eqb, ltb, List, take, Ordering, Less, Equal, Greater, sym, refl, ap, ◌∙◌, subst}
 use Rattle.std.specs.Ordering.{is_lt, ordering_then, nat_cmp}
-use Rattle.std.specs.Cmp.Derive.{by_place}
 use Rattle.std.proofs.ByRecursion.{All-weaker}
-use Rattle.stations.specs.declared.key.Key.{Key}
 use Rattle.stations.specs.declared.key.Kind as kinds
 use Rattle.stations.specs.declared.key.Kind.TheVariants as variants
-use Rattle.stations.specs.contracts.key.Kind.{enum}
+use Rattle.stations.specs.contracts.key.KindOrd.TheImpl.{ghosts as kind_ghosts}
 use Rattle.stations.specs.Keys.{before, lex, kind_number}
 use Rattle.heaps.specs.Heap.{earlier, Pushed, Popped}
 use Rattle.heaps.proofs.Laws.{popped-first}
@@ -25,7 +23,7 @@ first-less true b = refl
 first-less false true = refl
 first-less false false = refl
 
-kinds-ranked : (k l : kinds.Kind) → (by_place enum).cmp k l ≡ nat_cmp (kind_number k) (kind_number l)
+kinds-ranked : (k l : kinds.Kind) → kind_ghosts.cmp k l ≡ nat_cmp (kind_number k) (kind_number l)
 kinds-ranked variants.Page variants.Page = refl
 kinds-ranked variants.Page variants.Station = refl
 kinds-ranked variants.Station variants.Page = refl
@@ -44,15 +42,15 @@ told v w =
     part j.rank k.rank _ _ (part j.sum k.sum _ _ of-kind)
 
 module _ (old : List Waiting) (used : ℕ) (key : Waiting) (new : List Waiting) where
-  pub put-from : (n : ℕ) → n ≡ used + 1 → Pushed (λ x' y' r'. r' ≡ ghosts.cmp x' y') old used key new → Put (take used old) key (take n new)
+  pub put-from : (n : ℕ) → n ≡ used + 1 → Pushed ghosts.cmp old used key new → Put (take used old) key (take n new)
   put-from n e p = subst (λ m. Put (take used old) key (take m new)) (sym e) record {
     holds = p.holds;
     heap = p.heap by_key;
   }
 
-  pub taken-from : Popped (λ x' y' r'. r' ≡ ghosts.cmp x' y') old used key new → Taken (take used old) key (take (used - 1) new)
+  pub taken-from : Popped ghosts.cmp old used key new → Taken (take used old) key (take (used - 1) new)
   taken-from p = record {
     holds = p.holds;
     heap = p.heap by_key;
-    least = λ h. All-weaker (λ v. earlier by_key v key ≡ false) (λ v. before v.key key.key ≡ false) (λ v e. sym (told v key) ∙ e) (take (used - 1) new) (popped-first (λ x' y' r'. r' ≡ ghosts.cmp x' y') old used key new by_key p h);
+    least = λ h. All-weaker (λ v. earlier by_key v key ≡ false) (λ v. before v.key key.key ≡ false) (λ v e. sym (told v key) ∙ e) (take (used - 1) new) (popped-first ghosts.cmp old used key new by_key p h);
   }

@@ -1,12 +1,11 @@
 -- What a read tells of a page.
-use Rattle.std.proofs.Common.{◌≡◌, ℕ, ◌+◌, ◌%◌, ◌^◌, ◌<◌, ◌≤◌, Bool, true, false, ltb, ◌⊎◌, List, length, take, Ok, Err, MatchBool, Result, sym, refl, ap, ◌∙◌, subst, inl, inr, ⊎_elim, arith}
+use Rattle.std.proofs.Common.{◌≡◌, ℕ, ◌+◌, ◌%◌, ◌^◌, ◌<◌, Bool, true, false, ltb, ◌⊎◌, List, length, take, Ok, Err, MatchBool, Result, refl, subst, inl, inr, ⊎_elim, arith}
 use Rattle.std.proofs.lemmas.Bool.{ltb-false}
 use Rattle.stations.specs.declared.station.Station.{Station}
 use Rattle.stations.specs.declared.fault.Fault.{Fault}
 use Rattle.stations.specs.declared.fault.Code.TheVariants.{DeadPage, WaitingFull}
 use Rattle.stations.specs.Faults.{fault}
 use Rattle.stations.specs.Counting.{count}
-use Rattle.books.specs.declared.Entry.{Entry}
 use Rattle.books.specs.Books.{Slot, dead, leaf, node, Book, slot, entries_on, IsLive}
 use Rattle.sources.specs.declared.page.Page.{Page}
 use Rattle.sources.specs.Sources.{Gives, Reads}
@@ -14,7 +13,7 @@ use Rattle.promises.specs.Queries.{Query}
 use Rattle.promises.specs.Waiting.{passes}
 use Rattle.waiting.specs.declared.waiting.Waiting.{Waiting}
 use Rattle.waiting.specs.Held.{Filled, Fills}
-use Rattle.waiting.specs.States.{Refuses, many, unnamed, dies, crowds, Opens}
+use Rattle.waiting.specs.States.{unnamed, dies, crowds, Opens}
 
 same-err : {f g : Fault} → ◌≡◌ {A = Result Page Fault} (Err f) (Err g) → f ≡ g
 same-err e = cc

@@ -1,8 +1,8 @@
 -- One turn of a run, against the book.
-use Rattle.std.proofs.Common.{◌≡◌, ℕ, zero, suc, ◌+◌, ◌<◌, ◌≤◌, Bool, true, false, ◌&&◌, ltb, leb, ◌⊎◌, List, [], ◌∷◌, ◌++◌, map, length, Some, None, Ok, Err, filter, Option, Result, sym, refl, ap, ◌∙◌, subst, inl, inr, ⊎_elim, arith}
+use Rattle.std.proofs.Common.{◌≡◌, ℕ, zero, suc, ◌+◌, ◌<◌, ◌≤◌, Bool, true, false, ltb, leb, List, [], ◌∷◌, ◌++◌, map, length, Some, None, Ok, Err, filter, sym, refl, ap, ◌∙◌, subst, ⊎_elim, arith}
 use Rattle.std.specs.List.{AllByRecursion as All}
 use Rattle.std.proofs.lemmas.List.{nil_from_length, append-nil}
-use Rattle.std.proofs.ByRecursion.{All-weaker, All-map, all_shuffled}
+use Rattle.std.proofs.ByRecursion.{All-map, all_shuffled}
 use Rattle.std.proofs.lemmas.Bool.{cases_Bool, cases_eq, both_ways, not-true, not_from_true, lt-ltb, le-ltb, le-leb, lt-leb}
 use Rattle.stations.specs.declared.station.Station as stated
 use Rattle.stations.specs.declared.key.Key.{Key}
@@ -21,8 +21,8 @@ use Rattle.heaps.proofs.Laws.{none_heaped}
 use Rattle.promises.specs.Bounds.{Bound, all, below, up_to, within}
 use Rattle.promises.specs.Queries.{Query, Laws, station_key, page_key, answer}
 use Rattle.promises.specs.Opening.{called_for, opened, listed}
-use Rattle.promises.specs.Waiting.{key_of, passes, Place, places, waits, waiting}
-use Rattle.promises.specs.Searching.{top_key, row, open_fault, halt_at, next, opened_after}
+use Rattle.promises.specs.Waiting.{key_of, passes, Place, waiting}
+use Rattle.promises.specs.Searching.{top_key, row, open_fault, halt_at}
 use Rattle.promises.specs.Stepping.{Clear, Steps}
 use Rattle.promises.specs.Turning as turning
 use Rattle.promises.specs.Turning.{Same, Least, Turns}
@@ -39,7 +39,7 @@ use Rattle.promises.proofs.Turning as proved
 use Rattle.waiting.specs.declared.waiting.Waiting.{Waiting}
 use Rattle.waiting.specs.Orders.{by_key}
 use Rattle.waiting.specs.Held.{Keyed, entries_of, Taken, Filled}
-use Rattle.waiting.specs.States.{limits, Reply, Refuses, many, unnamed, dies, crowds, Opens, At, Goes, Gave, Turned}
+use Rattle.waiting.specs.States.{limits, Refuses, many, unnamed, dies, crowds, Opens, At, Gave, Turned}
 use Rattle.waiting.proofs.Filling.{same_shuffled, same_length, entries-length, filled-count}
 
 kinds : {P : Type 0} {s : stated.Station} {c : Child} → Station s ≡ Page c → P

@@ -52,7 +52,7 @@ fn is_in_play(question: Question, entry: Entry) -> bool
 
 // The key of what has these measures, this kind and this number.
 fn key_at<R: Ranking>(ranking: &R, at: Measures, kind: Kind, number: u32) -> Key
-    ensures { (question : Question) → result ≡ key_at (bands (score ranking.now) question) «at» kind number }
+    ensures { (question : Question) → result ≡ key_at (bands (R.score ranking.now) question) «at» kind number }
 {
     Key {
         rank: ranking.rank(at),
@@ -64,7 +64,7 @@ fn key_at<R: Ranking>(ranking: &R, at: Measures, kind: Kind, number: u32) -> Key
 
 // The key by which an entry is taken.
 fn key_of<R: Ranking>(ranking: &R, question: Question, entry: Entry) -> Key
-    ensures { result ≡ key_of (bands (score ranking.now) question) entry }
+    ensures { result ≡ key_of (bands (R.score ranking.now) question) entry }
 {
     let at = measures_of(question, entry);
     match entry {
@@ -75,7 +75,7 @@ fn key_of<R: Ranking>(ranking: &R, question: Question, entry: Entry) -> Key
 
 // The entry with its key.
 pub(crate) fn keyed<R: Ranking>(ranking: &R, question: Question, entry: Entry) -> Waiting
-    ensures { result ≡ waiting_of (bands (score ranking.now) question) entry }
+    ensures { result ≡ waiting_of (bands (R.score ranking.now) question) entry }
 {
     Waiting {
         key: key_of(ranking, question, entry),

@@ -19,7 +19,7 @@ fn admit<R: Ranking>(
     listed: &Listed,
     entry: Entry,
 ) -> bool
-    ensures fills { Fills 1024 (bands (score ranking.now) question) (listing listed.now) (entry ∷ []) (held waiting.old) result (held waiting.new) }
+    ensures fills { Fills 1024 (bands (R.score ranking.now) question) (listing listed.now) (entry ∷ []) (held waiting.old) result (held waiting.new) }
     ensures few { waiting.new.used ≤ waiting.old.used + 1 }
 {
     if listed.passes(question, entry) {
@@ -36,7 +36,7 @@ pub fn fill<R: Ranking>(
     listed: &Listed,
     page: &Page,
 ) -> bool
-    ensures fills { Fills 1024 (bands (score ranking.now) question) (listing listed.now) (take page.now.len page.now.entries) (held waiting.old) result (held waiting.new) }
+    ensures fills { Fills 1024 (bands (R.score ranking.now) question) (listing listed.now) (take page.now.len page.now.entries) (held waiting.old) result (held waiting.new) }
     ensures few { waiting.new.used ≤ waiting.old.used + 12 }
 {
     for i in 0..page.len {

@@ -1,4 +1,4 @@
-use Rattle.std.proofs.Common.{◌≡◌, sym, refl, ap, ◌∙◌, arith, rules}
+use Rattle.std.proofs.Common.{sym, ◌∙◌, arith}
 use Rattle.promises.specs.Bands.{bands}
 use Rattle.waiting.specs.Held.{held, listing}
 use Rattle.waiting.proofs.Filling.{held-length, fills-put, filled_none}

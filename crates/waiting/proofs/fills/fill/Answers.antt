@@ -1,7 +1,7 @@
 use Rattle.std.proofs.Common.{arith, rules}
 use Rattle.promises.specs.Bands.{bands}
 use Rattle.waiting.specs.Held.{held, listing}
-use Rattle.waiting.proofs.Filling.{filled-nothing, fills-more, fills-full}
+use Rattle.waiting.proofs.Filling.{fills-more, fills-full}
 use Rattle.waiting.proofs.fills.fill.Goals as goal
 
 pub returns-then-not-admit : goal.returns-then-not-admit

@@ -1,7 +1,7 @@
-use Rattle.std.proofs.Common.{◌≡◌, ◌+◌, take, ap, arith, rules}
+use Rattle.std.proofs.Common.{◌+◌, ap, arith, rules}
 use borrow.Author.Tests.{le-false}
 use Rattle.stations.specs.Beating.{beats}
-use Rattle.stations.specs.Counting.{bit, count}
+use Rattle.stations.specs.Counting.{bit}
 use Rattle.waiting.proofs.Tests.{count-more, count-front}
 use Rattle.waiting.proofs.listed.Listed.few_beat.Goals as goal
 use Rattle.waiting.proofs.listed.Listed.few_beat.Goals.{then-beats+else-left-le1, else-beats}

@@ -1,4 +1,3 @@
-use Rattle.std.proofs.Common.{rules}
 use Rattle.waiting.proofs.Heaps.{taken-from}
 use Rattle.waiting.proofs.waiting.Queue.pop.Goals as goal
 

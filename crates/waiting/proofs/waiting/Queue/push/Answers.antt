@@ -1,5 +1,3 @@
-use Rattle.std.proofs.Common.{arith, rules}
-use Rattle.std.proofs.lemmas.List.{length-take-le}
 use Rattle.waiting.proofs.Heaps.{put-from}
 use Rattle.waiting.proofs.waiting.Queue.push.Goals as goal
 
