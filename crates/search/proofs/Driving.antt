@@ -1,5 +1,5 @@
 -- Call after call of `next`.
-use Rattle.std.proofs.Common.{◌≡◌, ℕ, zero, suc, ◌+◌, ◌<◌, ◌≤◌, List, [], ◌∷◌, ◌++◌, length, Some, None, Ok, Err, Result, sym, refl, ap, ◌∙◌, subst, arith}
+use Rattle.std.proofs.Common.{◌≡◌, ℕ, suc, ◌+◌, ◌<◌, List, [], ◌∷◌, ◌++◌, length, Some, None, Ok, Err, Result, sym, refl, ap, ◌∙◌, subst, arith}
 use Rattle.std.specs.List.{AllByRecursion as All}
 use Rattle.std.proofs.lemmas.List.{append_assoc, append-nil, same_from_push, length_push}
 use Rattle.std.proofs.ByRecursion.{All-append}
@@ -11,15 +11,14 @@ use Rattle.stations.specs.declared.fault.Code.TheVariants.{NoSearch}
 use Rattle.stations.specs.Faults.{placeless}
 use Rattle.books.specs.Books.{Book, Lawful}
 use Rattle.promises.specs.Bands.{bands, Monotone}
-use Rattle.promises.specs.Searching.{next}
-use Rattle.promises.specs.Histories.{Event, started, nexted, stopped, Standing, nothing, asked, Takes, History, new, then, handing, handed_in, phase_by, phase, Promised}
+use Rattle.promises.specs.Histories.{Event, nexted, Standing, nothing, asked, Takes, History, new, then, handing, handed_in, phase_by, phase, Promised}
 use Rattle.promises.proofs.Histories.{every-history}
 use Rattle.search.specs.declared.run.Run.{Run}
 use Rattle.search.specs.declared.call.Call.TheVariants.{Next}
 use Rattle.waiting.specs.Held.{listing}
 use Rattle.waiting.specs.States.{limits, Reply}
 use Rattle.search.specs.Relation.{after_next, Produces}
-use Rattle.search.specs.Playing.{call_of, question_of, end_of, Ends, Driven}
+use Rattle.search.specs.Playing.{call_of, question_of, Ends, Driven}
 use Rattle.waiting.proofs.Filling.{listing-length}
 use Rattle.search.proofs.Producing.{handed-more}
 

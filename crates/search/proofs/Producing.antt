@@ -1,22 +1,19 @@
 -- Each call keeps the relation between a run and its history.
-use Rattle.std.proofs.Common.{◌≡◌, ℕ, zero, suc, ◌+◌, ◌%◌, ◌^◌, ◌<◌, ◌≤◌, ◌⊎◌, List, [], ◌∷◌, ◌++◌, length, Some, None, Ok, Err, Option, Result, sym, refl, ap, ◌∙◌, subst, inl, inr, arith}
+use Rattle.std.proofs.Common.{◌≡◌, ℕ, suc, ◌^◌, ◌<◌, List, [], ◌∷◌, ◌++◌, length, Some, None, Ok, Err, Option, Result, sym, refl, ap, ◌∙◌, subst, inl, inr, arith}
 use Rattle.std.proofs.lemmas.List.{nil_from_length, length_push}
 use Rattle.stations.specs.declared.measures.Measures.{Measures}
 use Rattle.stations.specs.declared.station.Station.{Station}
 use Rattle.stations.specs.declared.question.Question.{Question}
 use Rattle.stations.specs.declared.fault.Fault.{Fault}
 use Rattle.stations.specs.declared.fault.Code.TheVariants.{NoSearch}
-use Rattle.stations.specs.Beating.{◌≼◌}
 use Rattle.stations.specs.Faults.{placeless, verdict}
 use Rattle.stations.specs.Questions.{question_fault}
 use Rattle.books.specs.Books.{Book, Lawful}
 use Rattle.promises.specs.Bands.{bands, Monotone}
-use Rattle.promises.specs.Queries.{Query}
 use Rattle.promises.specs.Searching.{next, opened_after}
 use Rattle.promises.specs.Histories as histories
 use Rattle.promises.specs.Histories.{Event, started, nexted, stopped, Standing, nothing, asked, after_start, Takes, History, new, then, handing, handed_in, phase_by, phase, Promised}
 use Rattle.promises.proofs.Histories.{every-history}
-use Rattle.search.specs.declared.run.Phase.{Phase}
 use Rattle.search.specs.declared.run.Phase.TheVariants as phases
 use Rattle.search.specs.declared.run.Run.{Run}
 use Rattle.waiting.specs.Held.{held, listing}

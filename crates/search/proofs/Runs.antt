@@ -1,5 +1,5 @@
 -- The turns of a run, with the laws of its source and its ranking.
-use Rattle.std.proofs.Common.{◌≡◌, ℕ, suc, ◌+◌, ◌<◌, ◌≤◌, true, false, List, [], ◌∷◌, ◌++◌, length, Some, None, Ok, Err, Option, Result, sym, refl, ap, ◌∙◌, subst, arith}
+use Rattle.std.proofs.Common.{◌≡◌, ℕ, suc, ◌≤◌, true, false, List, ◌∷◌, length, Some, None, Ok, Err, Option, Result, sym, ap, ◌∙◌, subst, arith}
 use Rattle.std.proofs.lemmas.List.Sorted.{length_permutation}
 use Rattle.stations.specs.declared.measures.Measures.{Measures}
 use Rattle.stations.specs.declared.station.Station as stated
@@ -21,7 +21,7 @@ use Rattle.waiting.specs.declared.waiting.Waiting.{Waiting}
 use Rattle.waiting.specs.declared.waiting.Queue.{Queue}
 use Rattle.search.specs.declared.run.Run.{Run}
 use Rattle.waiting.specs.Held.{held, listing, Taken, Lists}
-use Rattle.waiting.specs.States.{Reply, Opens, At, Goes, Gave, Turned}
+use Rattle.waiting.specs.States.{Reply, Opens, At, Gave, Turned}
 use Rattle.search.specs.Runs.{Unchanged, Kept, query_of}
 use Rattle.waiting.proofs.Filling.{held-length}
 use Rattle.waiting.proofs.Turns as turns

@@ -44,7 +44,7 @@ impl<S: PageSource, R: Ranking> Run<S, R> {
     pub fn new(source: S, ranking: R) -> Self
         ensures source { result.source ≡ source }
         ensures ranking { result.ranking ≡ ranking }
-        ensures produces { (m : ℕ) → Produces book meter score (score ranking) (book source) [] nothing m result }
+        ensures produces { (m : ℕ) → Produces S.book S.meter R.score (R.score ranking) (S.book source) [] nothing m result }
     {
         let at = Measures {
             m1: 0,
@@ -85,7 +85,7 @@ impl<S: PageSource, R: Ranking> Run<S, R> {
     pub fn start(&mut self, question: Question) -> Result<(), Fault>
         ensures source { self.new.source ≡ self.old.source }
         ensures ranking { self.new.ranking ≡ self.old.ranking }
-        ensures produces { (rank : Measures → ℕ) (b : Book) (h : List Event) (stood : Standing) (m : ℕ) → Produces book meter score rank b h stood m self.old → Produces book meter score rank b (h ++ started question result ∷ []) (after_start question (question_fault question) stood) (meter_from (question_fault question) m (meter self.old.source)) self.new }
+        ensures produces { (rank : Measures → ℕ) (b : Book) (h : List Event) (stood : Standing) (m : ℕ) → Produces S.book S.meter R.score rank b h stood m self.old → Produces S.book S.meter R.score rank b (h ++ started question result ∷ []) (after_start question (question_fault question) stood) (meter_from (question_fault question) m (S.meter self.old.source)) self.new }
     {
         match question.check() {
             Err(fault) => Err(fault),
@@ -99,8 +99,8 @@ impl<S: PageSource, R: Ranking> Run<S, R> {
 
     // The next station, or None once the search is done. A search that has halted gives the same refusal at every call, and reads no more.
     pub fn next(&mut self) -> Result<Option<Station>, Fault>
-        ensures unchanged { Unchanged book pages self.old self.new }
-        ensures produces { (rank : Measures → ℕ) (b : Book) (h : List Event) (stood : Standing) (m : ℕ) → Produces book meter score rank b h stood m self.old → Produces book meter score rank b (h ++ nexted result ∷ []) (after_next stood) m self.new }
+        ensures unchanged { Unchanged S.book S.pages self.old self.new }
+        ensures produces { (rank : Measures → ℕ) (b : Book) (h : List Event) (stood : Standing) (m : ℕ) → Produces S.book S.meter R.score rank b h stood m self.old → Produces S.book S.meter R.score rank b (h ++ nexted result ∷ []) (after_next stood) m self.new }
     {
         match self.phase {
             Phase::None => Err(no_search()),
@@ -118,7 +118,7 @@ impl<S: PageSource, R: Ranking> Run<S, R> {
     pub fn stop(&mut self) -> Result<(), Fault>
         ensures source { self.new.source ≡ self.old.source }
         ensures ranking { self.new.ranking ≡ self.old.ranking }
-        ensures produces { (rank : Measures → ℕ) (b : Book) (h : List Event) (stood : Standing) (m : ℕ) → Produces book meter score rank b h stood m self.old → Produces book meter score rank b (h ++ stopped result ∷ []) nothing m self.new }
+        ensures produces { (rank : Measures → ℕ) (b : Book) (h : List Event) (stood : Standing) (m : ℕ) → Produces S.book S.meter R.score rank b h stood m self.old → Produces S.book S.meter R.score rank b (h ++ stopped result ∷ []) nothing m self.new }
     {
         match self.phase {
             Phase::None => Err(no_search()),
@@ -132,7 +132,7 @@ impl<S: PageSource, R: Ranking> Run<S, R> {
     // How many pages were opened and how many stations handed out, for the search that stands.
     pub fn tally(&self) -> (usize, usize)
         ensures fields { (result.0 ≡ self.now.opened) × (result.1 ≡ self.now.listed.len) }
-        ensures produced { (rank : Measures → ℕ) (b : Book) (h : List Event) (stands : Standing) (m : ℕ) → Produces book meter score rank b h stands m self.now → (result.0 ≡ length (pages_opened rank b stands)) × (result.1 ≡ length (handed_in [] h)) }
+        ensures produced { (rank : Measures → ℕ) (b : Book) (h : List Event) (stands : Standing) (m : ℕ) → Produces S.book S.meter R.score rank b h stands m self.now → (result.0 ≡ length (pages_opened rank b stands)) × (result.1 ≡ length (handed_in [] h)) }
     {
         (self.opened, self.listed.len)
     }
@@ -140,15 +140,15 @@ impl<S: PageSource, R: Ranking> Run<S, R> {
     // The stations handed out for the search that stands, in that order.
     pub fn listed(&self) -> &[Station]
         ensures fields { result.now ≡ listing self.now.listed }
-        ensures produced { (rank : Measures → ℕ) (b : Book) (h : List Event) (stands : Standing) (m : ℕ) → Produces book meter score rank b h stands m self.now → result.now ≡ handed_in [] h }
+        ensures produced { (rank : Measures → ℕ) (b : Book) (h : List Event) (stands : Standing) (m : ℕ) → Produces S.book S.meter R.score rank b h stands m self.now → result.now ≡ handed_in [] h }
     {
         &self.listed.stations[0..self.listed.len]
     }
 
     // Calls `next` until the search is done or refuses.
     pub fn drive(&mut self) -> Result<(), Fault>
-        ensures unchanged { Unchanged book pages self.old self.new }
-        ensures driven { (rank : Measures → ℕ) (b : Book) (h : List Event) (stood : Standing) (m : ℕ) → Produces book meter score rank b h stood m self.old → Driven book meter score rank b h stood m result self.new }
+        ensures unchanged { Unchanged S.book S.pages self.old self.new }
+        ensures driven { (rank : Measures → ℕ) (b : Book) (h : List Event) (stood : Standing) (m : ℕ) → Produces S.book S.meter R.score rank b h stood m self.old → Driven S.book S.meter R.score rank b h stood m result self.new }
     {
         for _ in 0..=MOST_LISTED {
             match self.next() {

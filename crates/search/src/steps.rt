@@ -15,10 +15,10 @@ use waiting::fill;
 impl<S: PageSource, R: Ranking> Run<S, R> {
     // Opens a page. Nothing else reads the source.
     fn open(&mut self, page: u32) -> Result<(), Fault>
-        ensures kept { Kept book pages meter self.old self.new }
+        ensures kept { Kept S.book S.pages S.meter self.old self.new }
         ensures phase { self.new.phase ≡ self.old.phase }
         ensures listed { self.new.listed ≡ self.old.listed }
-        ensures opens { Opens (query_of score self.old) (book self.old.source) (pages self.old.source) page (listing self.old.listed) (held self.old.waiting) (held self.new.waiting) self.old.opened self.new.opened result }
+        ensures opens { Opens (query_of R.score self.old) (S.book self.old.source) (S.pages self.old.source) page (listing self.old.listed) (held self.old.waiting) (held self.new.waiting) self.old.opened self.new.opened result }
         ensures few { self.new.waiting.used ≤ self.old.waiting.used + 12 }
     {
         if self.opened >= MOST_PAGES {
@@ -52,10 +52,10 @@ impl<S: PageSource, R: Ranking> Run<S, R> {
 
     // One turn: takes the least of what waits. None where the search goes on, and else what `next` is to say.
     fn turn(&mut self) -> Option<Result<Option<Station>, Fault>>
-        ensures kept { Kept book pages meter self.old self.new }
+        ensures kept { Kept S.book S.pages S.meter self.old self.new }
         ensures phase { self.new.phase ≡ self.old.phase }
         ensures falls { Falls result (left self.old) (left self.new) }
-        ensures turns { (u : Bound) → At (query_of score self.old) (book self.old.source) u (held self.old.waiting) (listing self.old.listed) self.old.opened → Turned (query_of score self.old) (book self.old.source) (listing self.old.listed) result (held self.new.waiting) (listing self.new.listed) self.new.opened }
+        ensures turns { (u : Bound) → At (query_of R.score self.old) (S.book self.old.source) u (held self.old.waiting) (listing self.old.listed) self.old.opened → Turned (query_of R.score self.old) (S.book self.old.source) (listing self.old.listed) result (held self.new.waiting) (listing self.new.listed) self.new.opened }
     {
         let Some(first) = self.waiting.pop() else {
             return Some(Ok(None));
@@ -83,8 +83,8 @@ impl<S: PageSource, R: Ranking> Run<S, R> {
 
     // Turn after turn, to the next reply.
     fn reply(&mut self) -> Result<Option<Station>, Fault>
-        ensures kept { Kept book pages meter self.old self.new }
-        ensures gives { (u : Bound) → At (query_of score self.old) (book self.old.source) u (held self.old.waiting) (listing self.old.listed) self.old.opened → Gave (query_of score self.old) (book self.old.source) (listing self.old.listed) result (held self.new.waiting) (listing self.new.listed) self.new.opened }
+        ensures kept { Kept S.book S.pages S.meter self.old self.new }
+        ensures gives { (u : Bound) → At (query_of R.score self.old) (S.book self.old.source) u (held self.old.waiting) (listing self.old.listed) self.old.opened → Gave (query_of R.score self.old) (S.book self.old.source) (listing self.old.listed) result (held self.new.waiting) (listing self.new.listed) self.new.opened }
     {
         loop {
             if let Some(reply) = self.turn() {
@@ -95,8 +95,8 @@ impl<S: PageSource, R: Ranking> Run<S, R> {
 
     // Searches on to the next reply. The top is opened first.
     pub(crate) fn search(&mut self) -> Result<Option<Station>, Fault>
-        ensures kept { Kept book pages meter self.old self.new }
-        ensures gives { Goes (query_of score self.old) (book self.old.source) (held self.old.waiting) (listing self.old.listed) self.old.opened → Gave (query_of score self.old) (book self.old.source) (listing self.old.listed) result (held self.new.waiting) (listing self.new.listed) self.new.opened }
+        ensures kept { Kept S.book S.pages S.meter self.old self.new }
+        ensures gives { Goes (query_of R.score self.old) (S.book self.old.source) (held self.old.waiting) (listing self.old.listed) self.old.opened → Gave (query_of R.score self.old) (S.book self.old.source) (listing self.old.listed) result (held self.new.waiting) (listing self.new.listed) self.new.opened }
     {
         if self.opened > 0 {
             return self.reply();

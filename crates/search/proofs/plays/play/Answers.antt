@@ -1,5 +1,4 @@
-use Rattle.std.proofs.Common.{◌≡◌, [], length, take, sym, refl, ap, ◌∙◌, subst, take_all}
-use Rattle.search.specs.declared.call.Call.TheVariants.{Next}
+use Rattle.std.proofs.Common.{[], take, sym, subst, take_all}
 use Rattle.search.specs.Playing.{Made}
 use Rattle.search.proofs.Playing.{made_none, made-next, made_with, played}
 use Rattle.search.proofs.plays.play.Goals as goal

@@ -1,4 +1,4 @@
-use Rattle.std.proofs.Common.{◌≡◌, [], ◌∷◌, ◌++◌, length, Ok, sym, refl, ap, ◌∙◌, subst, arith, rules}
+use Rattle.std.proofs.Common.{[], ◌∷◌, ◌++◌, length, Ok, refl, ap, subst, arith}
 use Rattle.promises.specs.Histories.{nexted}
 use Rattle.search.specs.Relation.{after_next, Produces}
 use Rattle.books.specs.Books.{Lawful}

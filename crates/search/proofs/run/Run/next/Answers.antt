@@ -1,4 +1,4 @@
-use Rattle.std.proofs.Common.{◌≡◌, [], ◌∷◌, ◌++◌, Err, sym, refl, ap, ◌∙◌, subst}
+use Rattle.std.proofs.Common.{[], ◌∷◌, ◌++◌, Err, sym, refl, subst}
 use Rattle.books.specs.Books.{Lawful}
 use Rattle.promises.specs.Bands.{Monotone}
 use Rattle.promises.specs.Histories.{nexted}

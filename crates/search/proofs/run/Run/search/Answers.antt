@@ -1,4 +1,4 @@
-use Rattle.std.proofs.Common.{◌≡◌, ◌≤◌, Ok, Err, sym, ap, subst, ⊎_elim, arith, rules}
+use Rattle.std.proofs.Common.{Err, sym, subst, ⊎_elim, arith}
 use Rattle.waiting.specs.Held.{held, listing}
 use Rattle.waiting.specs.States.{Gave}
 use Rattle.search.specs.Runs.{query_of}

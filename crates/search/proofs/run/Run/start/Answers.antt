@@ -1,4 +1,4 @@
-use Rattle.std.proofs.Common.{◌≡◌, sym, refl, ap, ◌∙◌}
+use Rattle.std.proofs.Common.{refl}
 use Rattle.search.proofs.Producing.{start-refused, start-accepted}
 use Rattle.search.proofs.run.Run.start.Goals as goal
 

@@ -1,4 +1,4 @@
-use Rattle.std.proofs.Common.{◌≡◌, [], ◌∷◌, ◌++◌, Err, sym, refl, ap, ◌∙◌, subst}
+use Rattle.std.proofs.Common.{[], ◌∷◌, ◌++◌, Err, sym, refl, subst}
 use Rattle.promises.specs.Histories.{stopped, nothing}
 use Rattle.search.specs.Relation.{Produces}
 use Rattle.search.proofs.Producing.{stop-none, stop-some}

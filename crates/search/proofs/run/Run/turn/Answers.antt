@@ -1,4 +1,4 @@
-use Rattle.std.proofs.Common.{◌≡◌, Some, None, Ok, Err, sym, refl, ap, ◌∙◌, subst, arith, rules}
+use Rattle.std.proofs.Common.{Some, None, Ok, Err, sym, refl, subst, arith}
 use Rattle.waiting.specs.Held.{held, listing}
 use Rattle.waiting.specs.States.{Opens, Turned}
 use Rattle.search.specs.Runs.{query_of}
