@@ -113,6 +113,19 @@ impl Listed {
         true
     }
 
+    // How many of the listed stations beat the measures.
+    pub fn beating(&self, at: Measures) -> usize
+        ensures { result ≡ count (λ s. beats s.at «at») (listing self.now) }
+    {
+        let mut n = 0;
+        for i in 0..self.len {
+            if self.stations[i].at.beats(at) {
+                n += 1;
+            }
+        }
+        n
+    }
+
     // Fewer than k of the listed stations beat the measures. It looks no further than the k-th that does.
     fn few_beat(&self, at: Measures, k: u16) -> bool
         ensures { result ≡ nat_lt (count (λ s. beats s.at «at») (listing self.now)) k }
