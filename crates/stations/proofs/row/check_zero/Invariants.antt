@@ -1,5 +1,5 @@
-use Rattle.std.proofs.Common.{◌≡◌, ◌≤◌, length, drop}
-use Rattle.stations.specs.Rows.{zero_fault, most_stations}
+use Rattle.std.proofs.Common.{◌≡◌, drop}
+use Rattle.stations.specs.Rows.{zero_fault}
 use Rattle.stations.proofs.row.check_zero.Given as goal
 
 -- what is left decides
