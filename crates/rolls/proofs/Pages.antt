@@ -8,7 +8,7 @@ use Rattle.std.proofs.lemmas.List.FromFn.{length-map-range_with_len, get_or-map-
 use Rattle.stations.specs.declared.station.Station.{Station}
 use Rattle.stations.specs.Counting.{bit, count}
 use Rattle.books.specs.declared.Child.{Child}
-use Rattle.books.specs.Books.{dead, level, stations_on, children_on, stations, named, names}
+use Rattle.books.specs.Books.{dead, stations_on, children_on, stations, named, names}
 use Rattle.rolls.specs.Rolls.{pages_of, child, children, page_at, level_pages, pages_from}
 use Rattle.rolls.proofs.Parts.{joined_append, joined_map, joined_none, joined_parts, all-counted}
 use Rattle.rolls.proofs.Spans.{spans_all}
