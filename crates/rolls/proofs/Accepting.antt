@@ -1,6 +1,6 @@
 -- A row that is not refused is sound.
 use Rattle.std.proofs.Common.{◌≡◌, ℕ, suc, ◌+◌, ◌≤◌, Bool, true, false, eqb, ltb, List, [], ◌∷◌, ◌++◌, length, Some, None, Ok, Option, refl, ap, subst, arith}
-use Rattle.std.specs.List.{AllByRecursion as All}
+use Rattle.std.specs.List.{AllByRecursion as Each}
 use Rattle.std.proofs.lemmas.List.{append_assoc}
 use Rattle.std.proofs.lemmas.Bool.{ltb-false, eqb-false, eqb-true, or_parts}
 use Rattle.stations.specs.declared.fault.Fault.{Fault}
@@ -30,7 +30,7 @@ pub passed : (o : Option Fault) → verdict o ≡ Ok tt → o ≡ None
 passed (Some f) e = absurd (let z : ◌≡◌ {A = ℕ} 0 1 = cc in omega arith)
 passed None e = refl
 
-no_zero : (i : ℕ) (row : List Station) → zero_fault i row ≡ None → All (λ s. 1 ≤ s.number) row
+no_zero : (i : ℕ) (row : List Station) → zero_fault i row ≡ None → Each (λ s. 1 ≤ s.number) row
 no_zero i [] e = tt
 no_zero i (s ∷ ss) e =
     let h = both-pass (eqb s.number 0) (fault OutOfRange i 0) (zero_fault (suc i) ss) e in
@@ -55,7 +55,7 @@ no_repeat earlier i (s ∷ ss) h e n =
         go true p = omega (arith, subst (λ j. count (numbered j) earlier ≡ 0) (eqb-true s.number m p) (none-held s.number earlier k.0))
         go false p = omega (arith, h m)
 
-pub sound : (row : List Station) → row_fault row ≡ None → All (λ s. Ordinary s.at) row → Sound row
+pub sound : (row : List Station) → row_fault row ≡ None → Each (λ s. Ordinary s.at) row → Sound row
 sound row e measures =
     let h = both-pass (ltb most_stations (length row)) (placeless TooManyStations) (or_else (zero_fault 0 row) (repeat_fault [] 0 row)) e in
     let k = then-pass (zero_fault 0 row) (repeat_fault [] 0 row) h.1 in

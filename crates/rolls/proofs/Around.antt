@@ -1,6 +1,6 @@
 -- The least box around stations holds them, and lies in every box that does.
 use Rattle.std.proofs.Common.{◌≤◌, List, [], ◌∷◌, length, arith}
-use Rattle.std.specs.List.{AllByRecursion as All}
+use Rattle.std.specs.List.{AllByRecursion as Each}
 use Rattle.std.proofs.ByRecursion.{All-weaker}
 use Rattle.stations.specs.declared.measures.Measures.{Measures}
 use Rattle.stations.specs.declared.station.Station.{Station}
@@ -28,19 +28,19 @@ in_all : (box : Region) (ss : List Station) → Nested box (widen_all box ss)
 in_all box [] = omega arith
 in_all box (s ∷ ss) = nested_trans box (widen box s.at) (widen_all (widen box s.at) ss) (wider box s.at) (in_all (widen box s.at) ss)
 
-all_in : (box : Region) (ss : List Station) → All (λ s. Inside s.at (widen_all box ss)) ss
+all_in : (box : Region) (ss : List Station) → Each (λ s. Inside s.at (widen_all box ss)) ss
 all_in box [] = tt
 all_in box (s ∷ ss) = (inside_nested s.at (widen box s.at) (widen_all (widen box s.at) ss) (in_wider box s.at) (in_all (widen box s.at) ss), all_in (widen box s.at) ss)
 
-least-all : (box other : Region) (ss : List Station) → Nested box other → All (λ s. Inside s.at other) ss → Nested (widen_all box ss) other
+least-all : (box other : Region) (ss : List Station) → Nested box other → Each (λ s. Inside s.at other) ss → Nested (widen_all box ss) other
 least-all box other [] h k = h
 least-all box other (s ∷ ss) h k = least-all (widen box s.at) other ss (least-wider box other s.at h k.0) k.1
 
-pub around-holds : (ss : List Station) → All (λ s. Inside s.at (around ss)) ss
+pub around-holds : (ss : List Station) → Each (λ s. Inside s.at (around ss)) ss
 around-holds [] = tt
 around-holds (s ∷ ss) = (inside_nested s.at (point s.at) (widen_all (point s.at) ss) (omega arith) (in_all (point s.at) ss), all_in (point s.at) ss)
 
-pub around-least : (ss : List Station) (other : Region) → 1 ≤ length ss → All (λ s. Inside s.at other) ss → Nested (around ss) other
+pub around-least : (ss : List Station) (other : Region) → 1 ≤ length ss → Each (λ s. Inside s.at other) ss → Nested (around ss) other
 around-least [] other h k = absurd (omega arith)
 around-least (s ∷ ss) other h k = least-all (point s.at) other ss (record { above = k.0.above; below = k.0.below }) k.1
 
@@ -52,7 +52,7 @@ around-ordered (s ∷ ss) h = let k = (around-holds (s ∷ ss)).0 in omega arith
 abbrev widest : Region
 widest = record { low = record { m1 = 0; m2 = 0; m3 = 0; m4 = 0 }; high = record { m1 = 65535; m2 = 65535; m3 = 65535; m4 = 65535 } }
 
-pub around-high : (ss : List Station) → 1 ≤ length ss → All (λ s. Ordinary s.at) ss → Ordinary (around ss).high
+pub around-high : (ss : List Station) → 1 ≤ length ss → Each (λ s. Ordinary s.at) ss → Ordinary (around ss).high
 around-high ss h k =
     let lies = around-least ss widest h (All-weaker (λ s. Ordinary s.at) (λ s. Inside s.at widest) (λ s j. omega arith) ss k) in
     omega (arith, lies.below)

@@ -1,6 +1,6 @@
 -- A sound row makes a lawful and whole book of least boxes.
 use Rattle.std.proofs.Common.{◌≡◌, ℕ, zero, suc, ◌+◌, ◌-◌, ◌*◌, ◌<◌, ◌≤◌, List, [], ◌∷◌, length, get_or, sym, refl, ap, ◌∙◌, subst, ap₂, ⊎_elim, zero-add, arith}
-use Rattle.std.specs.List.{AllByRecursion as All}
+use Rattle.std.specs.List.{AllByRecursion as Each}
 use Rattle.std.proofs.lemmas.List.{get_or_past}
 use Rattle.std.proofs.lemmas.Bool.{cases_lt}
 use Rattle.std.proofs.lemmas.Bool.Decides.{nat_tests}
@@ -24,8 +24,8 @@ record Good (b : Book) (p : ℕ) (s : Slot) : Type 0 where
   levels : level s ≤ 7
   sizes : size s ≤ 12
   filled : Filled p s
-  after : All (λ c. (p < c.page) × (c.page < length b)) (children_on s)
-  fits : All (λ c. Fits (level s) c.bounds (slot b c.page)) (children_on s)
+  after : Each (λ c. (p < c.page) × (c.page < length b)) (children_on s)
+  fits : Each (λ c. Fits (level s) c.bounds (slot b c.page)) (children_on s)
 
 -- a place that the book does not have asks nothing
 good-dead : (b : Book) (p : ℕ) → Good b p dead
@@ -42,7 +42,7 @@ record Kept (b : Book) (c : Child) : Type 0 where
   high : Ordinary c.bounds.high
 
 -- that is all that they ask, where each page but the top is named once and no other
-module _ (b : Book) (top : IsLive (slot b 0)) (good : (p : ℕ) → Good b p (slot b p)) (kept : All (Kept b) (named b)) (counted : (p : ℕ) → count (names p) (named b) ≡ within 1 (length b) p) where
+module _ (b : Book) (top : IsLive (slot b 0)) (good : (p : ℕ) → Good b p (slot b p)) (kept : Each (Kept b) (named b)) (counted : (p : ℕ) → count (names p) (named b) ≡ within 1 (length b) p) where
   whole : Whole b
   whole = record { top = top; rest = All-weaker (Kept b) _ (λ c k. k.live) (named b) kept }
 
@@ -69,7 +69,7 @@ module _ (b : Book) (top : IsLive (slot b 0)) (good : (p : ℕ) → Good b p (sl
     numbered_once = rw same sound.numbered_once;
   }
 
-module _ (row : List Station) (some : 1 ≤ length row) (measured : All (λ s. Ordinary s.at) row) (b : Book) where
+module _ (row : List Station) (some : 1 ≤ length row) (measured : Each (λ s. Ordinary s.at) row) (b : Book) where
   -- the end of the book is the pages of level l and below, from the page number first
   record Ends (l first : ℕ) : Type 0 where
     at : (k : ℕ) → k < length (pages_from row l first) → slot b (first + k) ≡ get_or (pages_from row l first) k dead
@@ -96,7 +96,7 @@ module _ (row : List Station) (some : 1 ≤ length row) (measured : All (λ s. O
     high = around-high (part (span l) row i) (part-some row some l i h) (all-part (λ s. Ordinary s.at) (span l) row i measured);
   }
 
-  all-kept : (l first : ℕ) → Ends l first → All (Kept b) (named (pages_from row l first))
+  all-kept : (l first : ℕ) → Ends l first → Each (Kept b) (named (pages_from row l first))
   all-kept = all_named row (Kept b) Ends ends-below kept
 
   good-leaf : (p i : ℕ) → i < pages row 0 → Good b p (leaf (part 12 row i))
@@ -159,7 +159,7 @@ row_laws row sound some = record {
     good : (p : ℕ) → Good book p (slot book p)
     good = good-everywhere book (λ k h. subst (λ n. Good book n (slot book k)) (zero-add k) (good-pages row some sound.measures book level-top 0 (top-low (length row)) ends k h))
 
-    kept-all : All (Kept book) (named book)
+    kept-all : Each (Kept book) (named book)
     kept-all = all-kept row some sound.measures book level-top 0 ends
 
     counted : (p : ℕ) → count (names p) (named book) ≡ within 1 (length book) p

@@ -1,6 +1,6 @@
 -- The pages of a roll, level by level, as they stand in a book.
 use Rattle.std.proofs.Common.{◌≡◌, ℕ, zero, suc, ◌+◌, ◌-◌, ◌<◌, ◌≤◌, Bool, ◌&&◌, ltb, leb, List, [], ◌∷◌, ◌++◌, map, length, get_or, sym, ap, ◌∙◌, subst, ap₂, add-zero, arith}
-use Rattle.std.specs.List.{range_with_len, AllByRecursion as All}
+use Rattle.std.specs.List.{range_with_len, AllByRecursion as Each}
 use Rattle.std.proofs.lemmas.List.{length-append, get_or_append_left, get_or-append_right}
 use Rattle.std.proofs.lemmas.Bool.Decides.{nat_tests}
 use Rattle.std.proofs.ByRecursion.{All-append}
@@ -8,7 +8,7 @@ use Rattle.std.proofs.lemmas.List.FromFn.{length-map-range_with_len, get_or-map-
 use Rattle.stations.specs.declared.station.Station.{Station}
 use Rattle.stations.specs.Counting.{bit, count}
 use Rattle.books.specs.declared.Child.{Child}
-use Rattle.books.specs.Books.{dead, level, stations_on, children_on, stations, named, names}
+use Rattle.books.specs.Books.{dead, stations_on, children_on, stations, named, names}
 use Rattle.rolls.specs.Rolls.{pages_of, child, children, page_at, level_pages, pages_from}
 use Rattle.rolls.proofs.Parts.{joined_append, joined_map, joined_none, joined_parts, all-counted}
 use Rattle.rolls.proofs.Spans.{spans_all}
@@ -88,8 +88,8 @@ module _ (row : List Station) where
       ∙ ap (λ high. within below high p) (omega (arith, length_from l first))
 
   -- what holds of every page that a level names holds of all that is named
-  pub all_named : (Q : Child → Type 0) (R : ℕ → ℕ → Type 0) → ((l first : ℕ) → R (suc l) first → R l (first + pages (suc l))) → ((l first i : ℕ) → R l first → i < pages l → Q (child row l first i)) → (l first : ℕ) → R l first → All Q (named (pages_from row l first))
-  all_named Q R step each zero first r = subst (All Q) (sym (named-zero first)) tt
+  pub all_named : (Q : Child → Type 0) (R : ℕ → ℕ → Type 0) → ((l first : ℕ) → R (suc l) first → R l (first + pages (suc l))) → ((l first i : ℕ) → R l first → i < pages l → Q (child row l first i)) → (l first : ℕ) → R l first → Each Q (named (pages_from row l first))
+  all_named Q R step each zero first r = subst (Each Q) (sym (named-zero first)) tt
   all_named Q R step each (suc l) first r =
       let below = first + pages (suc l) in
-      subst (All Q) (sym (named_more l first)) (All-append Q (children row l below) (named (pages_from row l below)) (all-counted Q (child row l below) 0 (pages l) (λ i low high. each l below i (step l first r) (omega arith))) (all_named Q R step each l below (step l first r)))
+      subst (Each Q) (sym (named_more l first)) (All-append Q (children row l below) (named (pages_from row l below)) (all-counted Q (child row l below) 0 (pages l) (λ i low high. each l below i (step l first r) (omega arith))) (all_named Q R step each l below (step l first r)))

@@ -1,6 +1,6 @@
 -- Lists that are cut into parts of one size, and lists that a function of the place makes.
 use Rattle.std.proofs.Common.{◌≡◌, ℕ, zero, suc, ◌+◌, ◌-◌, ◌*◌, ◌<◌, ◌≤◌, min, List, [], ◌∷◌, ◌++◌, map, length, get_or, take, drop, sym, refl, ap, ◌∙◌, subst, ap₂, mul-le-mul_right, mul_assoc, suc-mul, add-mul, zero-mul, arith}
-use Rattle.std.specs.List.{range_with_len, flat_map, AllByRecursion as All}
+use Rattle.std.specs.List.{range_with_len, flat_map, AllByRecursion as Each}
 use Rattle.std.proofs.lemmas.List.{append_assoc, take-append-drop, take-take, drop-take, drop-drop, take_all, length-take, length-drop, get_or-take, get_or-drop}
 use Rattle.std.proofs.ByRecursion.{All-append, All-take, All-drop, All-get_or, All-from_get_or}
 use Rattle.std.proofs.lemmas.List.FromFn.{length-map-range_with_len, get_or-map-range_with_len}
@@ -50,14 +50,14 @@ module _ {A : Type 0} where
       ∙ ap (take s) (drop-drop (j * s) (k * (m * s)) xs ∙ ap (λ t. drop t xs) place)
 
   module _ (P : A → Type 0) where
-    pub all-part : (s : ℕ) (xs : List A) (i : ℕ) → All P xs → All P (part s xs i)
+    pub all-part : (s : ℕ) (xs : List A) (i : ℕ) → Each P xs → Each P (part s xs i)
     all-part s xs i h = All-take P s (drop (i * s) xs) (All-drop P (i * s) xs h)
 
-    pub all_joined : (f : ℕ → List A) (a n : ℕ) → ((i : ℕ) → a ≤ i → i < a + n → All P (f i)) → All P (flat_map f (range_with_len a n))
+    pub all_joined : (f : ℕ → List A) (a n : ℕ) → ((i : ℕ) → a ≤ i → i < a + n → Each P (f i)) → Each P (flat_map f (range_with_len a n))
     all_joined f a zero h = tt
     all_joined f a (suc n) h = All-append P (f a) (flat_map f (range_with_len (a + 1) n)) (h a (omega arith) (omega arith)) (all_joined f (a + 1) n (λ i low high. h i (omega arith) (omega arith)))
 
-    pub all-counted : (f : ℕ → A) (a n : ℕ) → ((i : ℕ) → a ≤ i → i < a + n → P (f i)) → All P (map f (range_with_len a n))
+    pub all-counted : (f : ℕ → A) (a n : ℕ) → ((i : ℕ) → a ≤ i → i < a + n → P (f i)) → Each P (map f (range_with_len a n))
     all-counted f a zero h = tt
     all-counted f a (suc n) h = (h a (omega arith) (omega arith), all-counted f (a + 1) n (λ i low high. h i (omega arith) (omega arith)))
 
@@ -70,12 +70,12 @@ module _ {A : Type 0} where
     counted-part-at j d h l = get_or-take s (drop (k * s) (map f (range_with_len 0 n))) j d h ∙ get_or-drop (k * s) (map f (range_with_len 0 n)) j d ∙ get_or-map-range_with_len f 0 n (k * s + j) (k * s + j) d l (omega arith)
 
     module _ (P : A → Type 0) where
-      pub all-counted-part : ((j : ℕ) → j < s → k * s + j < n → P (f (k * s + j))) → All P (part s (map f (range_with_len 0 n)) k)
+      pub all-counted-part : ((j : ℕ) → j < s → k * s + j < n → P (f (k * s + j))) → Each P (part s (map f (range_with_len 0 n)) k)
       all-counted-part h =
           All-from_get_or P (part s (map f (range_with_len 0 n)) k) (f 0) (λ j l.
           let here : j < min s (n - k * s) = subst (λ t. j < t) length-counted-part l in
           subst P (sym (counted-part-at j (f 0) (omega arith) (omega arith))) (h j (omega arith) (omega arith)))
 
-      pub counted-part-all : All P (part s (map f (range_with_len 0 n)) k) → (j : ℕ) → j < s → k * s + j < n → P (f (k * s + j))
+      pub counted-part-all : Each P (part s (map f (range_with_len 0 n)) k) → (j : ℕ) → j < s → k * s + j < n → P (f (k * s + j))
       counted-part-all h j l m =
           subst P (counted-part-at j (f 0) l m) (All-get_or P (part s (map f (range_with_len 0 n)) k) j (f 0) (rw length-counted-part (omega arith)) h)

@@ -1,6 +1,6 @@
 -- How many pages a level has, and what each of them holds.
 use Rattle.std.proofs.Common.{◌≡◌, ℕ, zero, suc, ◌+◌, ◌*◌, ◌/◌, ◌%◌, ◌<◌, ◌≤◌, min, max, cond, eqb, List, [], length, sym, refl, ◌∙◌, subst, ⊎_elim, mul-le-mul_right, mul_assoc, suc-mul, add-mul, arith}
-use Rattle.std.specs.List.{AllByRecursion as All}
+use Rattle.std.specs.List.{AllByRecursion as Each}
 use Rattle.std.proofs.lemmas.List.{nil_from_length}
 use Rattle.std.proofs.lemmas.Bool.{cases_lt, cond_both, eqb-true, eqb-false}
 use Rattle.std.proofs.ByRecursion.{All-weaker}
@@ -82,11 +82,11 @@ module _ (row : List Station) where
     page-least zero below i h = record { holds = around-holds (part 12 row i); least = λ other k. around-least (part 12 row i) other (part-some 0 i h) k }
     page-least (suc l) below i h = record {
       holds = all-counted-part (child row l below) 12 (pages_of (length row) l) i (λ c. Nested c.bounds (around whole)) (λ j few here.
-          around-least (part (span l) row (i * 12 + j)) (around whole) (part-some l (i * 12 + j) here) (subst (All (λ s. Inside s.at (around whole))) (part-of-part (span l) 12 row i j few) (all-part _ (span l) whole j (around-holds whole))));
-      least = λ other k. around-least whole other (part-some (suc l) i h) (subst (All (λ s. Inside s.at other)) (joined_parts (span l) 12 whole (rw length_part (omega arith))) (all_joined _ (part (span l) whole) 0 12 (λ j low high.
-          subst (All (λ s. Inside s.at other)) (sym (part-of-part (span l) 12 row i j high)) (⊎_elim (λ here.
+          around-least (part (span l) row (i * 12 + j)) (around whole) (part-some l (i * 12 + j) here) (subst (Each (λ s. Inside s.at (around whole))) (part-of-part (span l) 12 row i j few) (all-part _ (span l) whole j (around-holds whole))));
+      least = λ other k. around-least whole other (part-some (suc l) i h) (subst (Each (λ s. Inside s.at other)) (joined_parts (span l) 12 whole (rw length_part (omega arith))) (all_joined _ (part (span l) whole) 0 12 (λ j low high.
+          subst (Each (λ s. Inside s.at other)) (sym (part-of-part (span l) 12 row i j high)) (⊎_elim (λ here.
           All-weaker _ _ (λ s m. inside_nested s.at (around (part (span l) row (i * 12 + j))) other m (counted-part-all (child row l below) 12 (pages_of (length row) l) i (λ c. Nested c.bounds other) k j high here)) (part (span l) row (i * 12 + j)) (around-holds (part (span l) row (i * 12 + j)))) (λ past.
-          subst (All (λ s. Inside s.at other)) (sym (nothing_past l (i * 12 + j) past)) tt) (cases_lt (i * 12 + j) (pages_of (length row) l))))));
+          subst (Each (λ s. Inside s.at other)) (sym (nothing_past l (i * 12 + j) past)) tt) (cases_lt (i * 12 + j) (pages_of (length row) l))))));
     }
       where
         whole : List Station

@@ -1,6 +1,6 @@
 -- What holds of every roll's book.
 use Rattle.std.specs.Prelude.{◌≡◌, ℕ, ◌≤◌, List, length}
-use Rattle.std.specs.List.{AllByRecursion as All}
+use Rattle.std.specs.List.{AllByRecursion as Each}
 use Rattle.stations.specs.declared.station.Station.{Station}
 use Rattle.stations.specs.declared.region.Region.{Region}
 use Rattle.stations.specs.Beating.{Ordinary}
@@ -12,8 +12,8 @@ use Rattle.rolls.specs.Rolls.{roll_book}
 -- what stands on the page lies in the box: each station of a leaf, and the box of each page that a node names
 abbrev pub Held : Region → Slot → Type 0
 Held box dead = Unit {0}
-Held box (leaf ss) = All (λ s. Inside s.at box) ss
-Held box (node l cs) = All (λ c. Nested c.bounds box) cs
+Held box (leaf ss) = Each (λ s. Inside s.at box) ss
+Held box (node l cs) = Each (λ c. Nested c.bounds box) cs
 
 -- the box holds what stands on the page, and every box that does so holds this one
 pub record LeastOf (box : Region) (page : Slot) : Type 0 where
@@ -22,17 +22,17 @@ pub record LeastOf (box : Region) (page : Slot) : Type 0 where
 
 -- every named page is named with its least box
 abbrev pub LeastBoxes : Book → Type 0
-LeastBoxes b = All (λ c. LeastOf c.bounds (slot b c.page)) (named b)
+LeastBoxes b = Each (λ c. LeastOf c.bounds (slot b c.page)) (named b)
 
 -- a row that may be read as a book
 pub record Sound (row : List Station) : Type 0 where
   pub few : length row ≤ most_stations
   -- station numbers are from 1
-  pub numbers : All (λ s. 1 ≤ s.number) row
+  pub numbers : Each (λ s. 1 ≤ s.number) row
   -- no two stations have one number
   pub numbered_once : (n : ℕ) → count (numbered n) row ≤ 1
   -- no measure is above 65,535
-  pub measures : All (λ s. Ordinary s.at) row
+  pub measures : Each (λ s. Ordinary s.at) row
 
 -- what a row's book keeps
 pub record RollLaws (row : List Station) : Type 0 where

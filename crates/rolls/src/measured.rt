@@ -1,5 +1,5 @@
 // What its type says of a measure, made known of a whole row.
-ghost use Rattle.std.specs.List.{AllByRecursion as All};
+ghost use Rattle.std.specs.List.{AllByRecursion as Each};
 ghost use Rattle.stations.specs.Beating.{Ordinary};
 
 use stations::{Measures, Station};
@@ -11,7 +11,7 @@ fn measure(at: Measures)
 
 // Does nothing: a row's measures are known to fit only where each is taken in hand.
 pub(crate) fn measure_all(row: &[Station])
-    ensures { All (λ s. Ordinary s.at) row.now }
+    ensures { Each (λ s. Ordinary s.at) row.now }
 {
     for s in row {
         measure(s.at);

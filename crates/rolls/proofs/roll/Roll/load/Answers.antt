@@ -7,4 +7,4 @@ pub invariant_of-self : goal.invariant_of-self
 invariant_of-self c =
     let s = sound c.args.row.now (passed (row_fault c.args.row.now) (sym c.check_row.ensures ∙ c.in_ok-check_row.was)) c.measure_all.ensures in
     let h = carried c.args.row.now s in
-    (s.few, (h.0, (h.1, (h.2, (c.args.self.now.metered, tt)))))
+    record { few = s.few; some = h.0; fits = h.1; lawful = h.2; metered = c.args.self.now.metered }
