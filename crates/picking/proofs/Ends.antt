@@ -10,7 +10,7 @@ use Rattle.books.specs.Books.{Book}
 use Rattle.logs.proofs.Verdicts.{verdict-err}
 use Rattle.printing.specs.declared.closing.Closing.{Closing}
 use Rattle.printing.specs.declared.closing.Closing.TheVariants as closing
-use Rattle.printing.specs.Printed.{closing_line, listing, refusal, refused_or, Prints}
+use Rattle.printing.specs.Printed.{closing_line, closed_listing, refusal, refused_or, Prints}
 use Rattle.printing.specs.declared.report.Report.{Report}
 use Rattle.promises.specs.Bands.{bands}
 use Rattle.promises.specs.Searching.{Ending, done, halted, last_reply, ending, handed}
@@ -46,7 +46,7 @@ module _ (rank : Measures → ℕ) (b : Book) (question : Question) where
   module _ (list : List Station) (pages : ℕ) (e : Result (Unit {0}) Fault) where
     -- what is printed at the end is what the definitions say
     abbrev Comes : Type 0
-    Comes = (search_fault rank b question ≡ fault_in e) × (search_lines rank b question ≡ listing rank (closing_line (closing_at e pages)) list)
+    Comes = (search_fault rank b question ≡ fault_in e) × (search_lines rank b question ≡ closed_listing rank (closing_line (closing_at e pages)) list)
 
     comes-asked : (question' : Question) (n : ℕ) → question' ≡ question → Ends rank b (asked question' n) e → (question_fault question' ≡ None) × Promised (bands rank question') b limits n list → pages ≡ length (pages_opened rank b (asked question' n)) → Comes
     comes-asked question' n is ends promised tallied =
@@ -56,15 +56,15 @@ module _ (rank : Measures → ℕ) (b : Book) (question : Question) where
         let same = agrees end e (sym ends ∙ ended.0) in
         let count : pages_at_end q b ≡ pages = ap length (sym ended.2) ∙ sym tallied in
         let fault : search_fault rank b question' ≡ fault_in e = ap (λ o. or_else o (halt_of end)) promised.0 ∙ same.0 in
-        let lines : search_lines rank b question' ≡ listing rank (closing_line (closing_at e pages)) list =
-        ap (λ o. refused_or o (listing rank (closing_line (closing_of end (pages_at_end q b))) (handed q b limits))) promised.0
-        ∙ ap (λ n. listing rank (closing_line (closing_of end n)) (handed q b limits)) count
-        ∙ ap (λ c. listing rank (closing_line c) (handed q b limits)) (same.1 pages)
-        ∙ ap (listing rank (closing_line (closing_at e pages))) (sym ended.1)
+        let lines : search_lines rank b question' ≡ closed_listing rank (closing_line (closing_at e pages)) list =
+        ap (λ o. refused_or o (closed_listing rank (closing_line (closing_of end (pages_at_end q b))) (handed q b limits))) promised.0
+        ∙ ap (λ n. closed_listing rank (closing_line (closing_of end n)) (handed q b limits)) count
+        ∙ ap (λ c. closed_listing rank (closing_line c) (handed q b limits)) (same.1 pages)
+        ∙ ap (closed_listing rank (closing_line (closing_at e pages))) (sym ended.1)
         in
-        subst (λ x. (search_fault rank b x ≡ fault_in e) × (search_lines rank b x ≡ listing rank (closing_line (closing_at e pages)) list)) is (fault, lines)
+        subst (λ x. (search_fault rank b x ≡ fault_in e) × (search_lines rank b x ≡ closed_listing rank (closing_line (closing_at e pages)) list)) is (fault, lines)
 
-    pub comes : (stands : Standing) → question_of stands ≡ Some question → Ends rank b stands e → ((question : Question) (n : ℕ) → stands ≡ asked question n → (question_fault question ≡ None) × Promised (bands rank question) b limits n list) → pages ≡ length (pages_opened rank b stands) → (search_fault rank b question ≡ fault_in e) × (search_lines rank b question ≡ listing rank (closing_line (closing_at e pages)) list)
+    pub comes : (stands : Standing) → question_of stands ≡ Some question → Ends rank b stands e → ((question : Question) (n : ℕ) → stands ≡ asked question n → (question_fault question ≡ None) × Promised (bands rank question) b limits n list) → pages ≡ length (pages_opened rank b stands) → (search_fault rank b question ≡ fault_in e) × (search_lines rank b question ≡ closed_listing rank (closing_line (closing_at e pages)) list)
     comes nothing is ends promised tallied = let z : ◌≡◌ {A = ℕ} 0 1 = cc in absurd (omega arith)
     comes (asked question' n) is ends promised tallied = let s : question' ≡ question = cc in comes-asked question' n s ends (promised question' n refl) tallied
 
@@ -80,10 +80,10 @@ module _ {S R : Type 0} (book : S → Book) (meter : S → ℕ) (score : R → M
   pub refused-start : (f : Fault) → r ≡ Err f → (search_fault rank b question ≡ Some f) × (search_lines rank b question ≡ refusal f)
   refused-start f is =
       let o = verdict-err (question_fault question) f (sym is ∙ says) in
-      (ap (λ x. or_else x (halt_of (ending (bands rank question) b limits))) o, ap (λ x. refused_or x (listing rank (closing_line (closing_of (ending (bands rank question) b limits) (pages_at_end (bands rank question) b))) (handed (bands rank question) b limits))) o)
+      (ap (λ x. or_else x (halt_of (ending (bands rank question) b limits))) o, ap (λ x. refused_or x (closed_listing rank (closing_line (closing_of (ending (bands rank question) b limits) (pages_at_end (bands rank question) b))) (handed (bands rank question) b limits))) o)
 
   pub searched : ((f : Fault) → r ≡ Err f → ⊥) → (e : Result (Unit {0}) Fault) (after : Run S R) (d : Driven book meter score rank b ([] ++ started question r ∷ []) (after_start question (question_fault question) nothing) m e after) (pages : ℕ) → pages ≡ length (pages_opened rank b d.stands) → (list : List Station) → list ≡ listed after.listed →
-      (search_fault rank b question ≡ fault_in e) × (search_lines rank b question ≡ listing rank (closing_line (closing_at e pages)) list)
+      (search_fault rank b question ≡ fault_in e) × (search_lines rank b question ≡ closed_listing rank (closing_line (closing_at e pages)) list)
   searched not_err e after d pages tallied list is =
       comes rank b question list pages e d.stands (d.same ∙ stands_by question (question_fault question) (λ f h. not_err f (says ∙ h))) d.ends
       (λ question n h. let k = d.promised question n h in (k.0, subst (Promised (bands rank question) b limits n) (sym is) k.1)) tallied

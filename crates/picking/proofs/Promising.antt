@@ -25,7 +25,7 @@ use Rattle.logs.proofs.Ranges.{ordinary-at}
 use Rattle.logs.proofs.Laws.{accepts_exactly}
 use Rattle.logs.proofs.ReadAs.{valid-row}
 use Rattle.printing.specs.declared.closing.Closing.TheVariants as closing
-use Rattle.printing.specs.Printed.{closing_line, listing, refused_or}
+use Rattle.printing.specs.Printed.{closing_line, closed_listing, refused_or}
 use Rattle.promises.specs.Bands.{bands, Monotone}
 use Rattle.promises.specs.Queries.{answer}
 use Rattle.promises.specs.Searching.{done, ending, handed, Within}
@@ -83,7 +83,7 @@ picks-answer text l within =
     in (
       pages_at_end q b,
       read
-          ∙ ap (λ o. refused_or o (listing rank (closing_line (closing_of (ending q b limits) (pages_at_end q b))) (handed q b limits))) l.valid.accepted
-          ∙ ap (λ x. listing rank (closing_line (closing_of x (pages_at_end q b))) (handed q b limits)) e.0
-          ∙ ap (listing rank (closing_line (closing.Done (pages_at_end q b)))) all,
+          ∙ ap (λ o. refused_or o (closed_listing rank (closing_line (closing_of (ending q b limits) (pages_at_end q b))) (handed q b limits))) l.valid.accepted
+          ∙ ap (λ x. closed_listing rank (closing_line (closing_of x (pages_at_end q b))) (handed q b limits)) e.0
+          ∙ ap (closed_listing rank (closing_line (closing.Done (pages_at_end q b)))) all,
     )

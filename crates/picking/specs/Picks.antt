@@ -15,7 +15,7 @@ use Rattle.logs.specs.Checks.{log_fault, score_in, question_in, row_in}
 use Rattle.logs.specs.Rendering.{Rendered}
 use Rattle.printing.specs.declared.closing.Closing.{Closing}
 use Rattle.printing.specs.declared.closing.Closing.TheVariants as closing
-use Rattle.printing.specs.Printed.{closing_line, listing, refused_or}
+use Rattle.printing.specs.Printed.{closing_line, closed_listing, refused_or}
 use Rattle.promises.specs.Bands.{bands}
 use Rattle.promises.specs.Queries.{Query}
 use Rattle.promises.specs.Opening.{opened}
@@ -55,7 +55,7 @@ module _ (rank : Measures → ℕ) (b : Book) (question : Question) where
   abbrev pub search_lines : List ℕ
   search_lines =
       refused_or (question_fault question)
-      (listing rank (closing_line (closing_of (ending (bands rank question) b limits) (pages_at_end (bands rank question) b))) (handed (bands rank question) b limits))
+      (closed_listing rank (closing_line (closing_of (ending (bands rank question) b limits) (pages_at_end (bands rank question) b))) (handed (bands rank question) b limits))
 
   -- what is promised of a search at its end, if the question is not refused
   abbrev pub KeepsPromises : Type 0
@@ -78,4 +78,4 @@ ask_lines book text = refused_or (or_else (log_fault 0 text) (load_fault book)) 
 -- of a log within the limits, what is printed is the answer to its question over its stations, in key order, and done
 abbrev pub PicksAnswer : List ℕ → Type 0
 PicksAnswer text = (l : Rendered most_stations text) → Within (bands (ranker_score l.ranker) l.question) (roll_book l.row) limits →
-    (pages : ℕ) × (pick_lines text ≡ listing (ranker_score l.ranker) (closing_line (closing.Done pages)) (answer (ranker_score l.ranker) l.question l.row))
+    (pages : ℕ) × (pick_lines text ≡ closed_listing (ranker_score l.ranker) (closing_line (closing.Done pages)) (answer (ranker_score l.ranker) l.question l.row))

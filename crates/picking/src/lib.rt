@@ -6,11 +6,11 @@ ghost use Rattle.stations.specs.Rows.{most_stations};
 ghost use Rattle.rolls.specs.Rolls.{roll_book};
 ghost use Rattle.stored.specs.Loading.{load_fault, spelled_book};
 ghost use Rattle.logs.specs.Checks.{log_fault, score_in, question_in, row_in};
-ghost use Rattle.printing.specs.Printed.{refusal, closing_line, listing, Prints};
+ghost use Rattle.printing.specs.Printed.{refusal, closing_line, closed_listing, Prints};
 ghost use Rattle.picking.specs.Picks.{fault_in, closing_at, search_fault, search_lines, pick_fault, pick_lines, ask_fault, ask_lines, KeepsPromises, PicksAnswer};
 
 use logs::read_log;
-use printing::{Closing, Report, print_listing, print_refusal};
+use printing::{Closing, Report, print_listing_closed, print_refusal};
 use rankings::Ranker;
 use rolls::Roll;
 use search::Run;
@@ -44,13 +44,18 @@ fn print_end(
     pages: usize,
     print: &mut [u8],
 ) -> Result<Report, Fault>
-    ensures { Prints (fault_in end) (listing (ranker_score ranking) (closing_line (closing_at end pages)) list.now) print.old print.new result }
+    ensures { Prints (fault_in end) (closed_listing (ranker_score ranking) (closing_line (closing_at end pages)) list.now) print.old print.new result }
 {
     match end {
-        Ok(_) => Ok(Report::Done(print_listing(list, &ranking, Closing::Done(pages), print)?)),
+        Ok(_) => Ok(Report::Done(print_listing_closed(
+            list,
+            &ranking,
+            Closing::Done(pages),
+            print,
+        )?)),
         Err(fault) => Ok(Report::Refused(
             fault,
-            print_listing(list, &ranking, Closing::Refused(fault), print)?,
+            print_listing_closed(list, &ranking, Closing::Refused(fault), print)?,
         )),
     }
 }

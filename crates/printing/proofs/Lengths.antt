@@ -1,5 +1,5 @@
 -- How long what is printed is.
-use Rattle.std.proofs.Common.{◌≡◌, ℕ, suc, ◌+◌, ◌-◌, ◌*◌, ◌/◌, ◌%◌, ◌^◌, ◌<◌, ◌≤◌, false, leb, List, [], ◌∷◌, ◌++◌, length, get_or, drop, decimal, sym, refl, ap, ◌∙◌, arith}
+use Rattle.std.proofs.Common.{◌≡◌, ℕ, ◌+◌, ◌-◌, ◌/◌, ◌%◌, ◌^◌, ◌<◌, ◌≤◌, false, leb, List, ◌∷◌, ◌++◌, length, get_or, drop, decimal, sym, ap, ◌∙◌, arith}
 use borrow.Author.Tests.{lt-leb}
 use Rattle.std.proofs.lemmas.Fmt.{decimal_step, decimal_digit, length-decimal-le}
 use Rattle.std.proofs.lemmas.List.{length_push, length-append, at_drop_more, at_drop_all}
@@ -7,7 +7,7 @@ use Rattle.std.proofs.lemmas.Bool.Decides.{nat_tests}
 use Rattle.stations.specs.declared.measures.Measures.{Measures}
 use Rattle.stations.specs.declared.station.Station.{Station}
 use Rattle.stations.proofs.Rows.{nowhere}
-use Rattle.printing.specs.Printed.{ender, numbered, station_numbers, listing}
+use Rattle.printing.specs.Printed.{ender, numbered, station_numbers, closed_listing}
 
 pub one_digit : (n : ℕ) → n < 10 → 1 ≡ length (decimal n)
 one_digit n h = sym (ap length (decimal_digit n h))
@@ -40,16 +40,16 @@ pub fits_never : (line rest room : ℕ) → room < line → false ≡ leb (line 
 fits_never line rest room h = sym (lt-leb (line + rest) room (omega arith))
 
 module _ (rank : Measures → ℕ) (last : List ℕ) (list : List Station) (i : ℕ) (below : i < length list) where
-  pub listing-at : listing rank last (drop i list) ≡ numbered (station_numbers (rank (get_or list i nowhere).at) (get_or list i nowhere)) ++ listing rank last (drop (i + 1) list)
-  listing-at = at_drop_more (listing rank last) list i nowhere below
+  pub listing-at : closed_listing rank last (drop i list) ≡ numbered (station_numbers (rank (get_or list i nowhere).at) (get_or list i nowhere)) ++ closed_listing rank last (drop (i + 1) list)
+  listing-at = at_drop_more (closed_listing rank last) list i nowhere below
 
   -- the line at place i, from the rank, the numbers and the length that the code found
   module _ (r : ℕ) (ns : List ℕ) (er : r ≡ rank (get_or list i nowhere).at) (en : ns ≡ station_numbers r (get_or list i nowhere)) where
     pub line_is : numbered ns ≡ numbered (station_numbers (rank (get_or list i nowhere).at) (get_or list i nowhere))
     line_is = ap numbered (en ∙ ap (λ k. station_numbers k (get_or list i nowhere)) er)
 
-    pub listing_step : listing rank last (drop i list) ≡ numbered ns ++ listing rank last (drop (i + 1) list)
-    listing_step = listing-at ∙ ap (λ line. line ++ listing rank last (drop (i + 1) list)) (sym line_is)
+    pub listing_step : closed_listing rank last (drop i list) ≡ numbered ns ++ closed_listing rank last (drop (i + 1) list)
+    listing_step = listing-at ∙ ap (λ line. line ++ closed_listing rank last (drop (i + 1) list)) (sym line_is)
 
-    pub length-listing-step : (n : ℕ) → n ≡ length (numbered ns) → length (listing rank last (drop i list)) ≡ n + length (listing rank last (drop (i + 1) list))
-    length-listing-step n e = ap length listing_step ∙ length-append (numbered ns) (listing rank last (drop (i + 1) list)) ∙ ap (λ k. k + length (listing rank last (drop (i + 1) list))) (sym e)
+    pub length-listing-step : (n : ℕ) → n ≡ length (numbered ns) → length (closed_listing rank last (drop i list)) ≡ n + length (closed_listing rank last (drop (i + 1) list))
+    length-listing-step n e = ap length listing_step ∙ length-append (numbered ns) (closed_listing rank last (drop (i + 1) list)) ∙ ap (λ k. k + length (closed_listing rank last (drop (i + 1) list))) (sym e)

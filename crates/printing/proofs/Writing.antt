@@ -1,7 +1,7 @@
 -- Bytes written one part after the other.
 use Rattle.std.proofs.Common.{◌≡◌, ℕ, ◌+◌, ◌-◌, ◌<◌, ◌≤◌, List, [], ◌∷◌, ◌++◌, length, take, drop, set, Ok, sym, refl, ap, ◌∙◌, subst, arith}
 use borrow.Rule.Slice.PartMut.{put_mid}
-use Rattle.std.proofs.lemmas.List.{append-nil, append_assoc, length-append, drop-drop, take_more_set, drop-set-lt, length-set}
+use Rattle.std.proofs.lemmas.List.{append-nil, append_assoc, length-append, drop-drop, take_more_set, drop-set-lt}
 use Rattle.std.proofs.lemmas.Slice.{take-put_mid, drop-put_mid}
 use Rattle.printing.specs.Printed.{Wrote, Printed}
 

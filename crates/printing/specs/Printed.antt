@@ -25,13 +25,18 @@ numbered (n ∷ ns) = decimal n ++ ender ns ∷ numbered ns
 abbrev pub station_numbers : ℕ → Station → List ℕ
 station_numbers rank s = s.number ∷ s.at.m1 ∷ s.at.m2 ∷ s.at.m3 ∷ s.at.m4 ∷ rank ∷ []
 
+-- a line for each station, and then `done`
+abbrev pub listing : (Measures → ℕ) → List Station → List ℕ
+listing rank [] = codes "done" ++ 10 ∷ []
+listing rank (s ∷ ss) = numbered (station_numbers (rank s.at) s) ++ listing rank ss
+
 -- what is printed of a refusal: its code and its two places
 abbrev pub fault_numbers : Fault → List ℕ
 fault_numbers f = number_of f.code ∷ f.first ∷ f.second ∷ []
 
--- the line of a refusal
+-- the line of a refusal: its code and its two places
 abbrev pub refusal : Fault → List ℕ
-refusal f = codes "refused," ++ numbered (fault_numbers f)
+refusal f = codes "refused," ++ numbered (number_of f.code ∷ f.first ∷ f.second ∷ [])
 
 -- the last line of a listing
 abbrev pub closing_line : Closing → List ℕ
@@ -40,9 +45,9 @@ closing_line (closing.Done pages) = codes "done," ++ numbered (pages ∷ [])
 closing_line (closing.Refused f) = refusal f
 
 -- a line for each station, and then the last line
-abbrev pub listing : (Measures → ℕ) → List ℕ → List Station → List ℕ
-listing rank last [] = last
-listing rank last (s ∷ ss) = numbered (station_numbers (rank s.at) s) ++ listing rank last ss
+abbrev pub closed_listing : (Measures → ℕ) → List ℕ → List Station → List ℕ
+closed_listing rank last [] = last
+closed_listing rank last (s ∷ ss) = numbered (station_numbers (rank s.at) s) ++ closed_listing rank last ss
 
 -- bytes written from a place on: they stand there, they end at the second place, and nothing else changed
 pub record Wrote (at : ℕ) (was bytes : List ℕ) (end : ℕ) (is : List ℕ) : Type 0 where

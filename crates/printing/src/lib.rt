@@ -1,7 +1,7 @@
 #![tactic(auto)]
 // The printed form of an answer, and of a refusal, into a lent buffer.
 ghost use Rattle.std.specs.Prelude.{◌≡◌, ℕ, ◌+◌, ◌≤◌, List, [], length, decimal, nat_le};
-ghost use Rattle.printing.specs.Printed.{numbered, station_numbers, fault_numbers, closing_line, listing, refusal, Wrote, Printed};
+ghost use Rattle.printing.specs.Printed.{numbered, station_numbers, fault_numbers, closing_line, listing, closed_listing, refusal, Wrote, Printed};
 
 use rankings::Ranking;
 use stations::{Code, Fault, Station};
@@ -129,9 +129,14 @@ fn put_closing(out: &mut [u8], at: usize, closing: Closing) -> usize
     }
 }
 
-// The listing is no longer than the room.
-fn listing_fits<R: Ranking>(list: &[Station], ranking: &R, closing: Closing, room: usize) -> bool
-    ensures { result ≡ nat_le (length (listing (score ranking.now) (closing_line closing) list.now)) room }
+// The lines and the closing line are no longer than the room.
+fn closed_listing_fits<R: Ranking>(
+    list: &[Station],
+    ranking: &R,
+    closing: Closing,
+    room: usize,
+) -> bool
+    ensures { result ≡ nat_le (length (closed_listing (R.score ranking.now) (closing_line closing) list.now)) room }
 {
     let mut left = room;
     for s in list {
@@ -144,27 +149,60 @@ fn listing_fits<R: Ranking>(list: &[Station], ranking: &R, closing: Closing, roo
     closing_len(closing) <= left
 }
 
-// Prints a line for each station, number, M1 to M4 and rank, and then the closing line.
+// The listing is no longer than the room.
+fn listing_fits<R: Ranking>(list: &[Station], ranking: &R, room: usize) -> bool
+    ensures { result ≡ nat_le (length (listing (R.score ranking.now) list.now)) room }
+{
+    closed_listing_fits(list, ranking, Closing::Complete, room)
+}
+
+// Writes the lines and the closing line, for which there is room, and says where they end.
+fn put_listing<R: Ranking>(list: &[Station], ranking: &R, closing: Closing, out: &mut [u8]) -> usize
+    requires { length (closed_listing (R.score ranking.now) (closing_line closing) list.now) ≤ length out.old }
+    ensures { Wrote 0 out.old (closed_listing (R.score ranking.now) (closing_line closing) list.now) result out.new }
+{
+    let mut end = 0;
+    for s in list {
+        end = put_numbers(out, end, &numbers_of(*s, ranking.rank(s.at)));
+    }
+    put_closing(out, end, closing)
+}
+
+// Prints a line for each station, number, M1 to M4 and rank, and then `done`.
 pub fn print_listing<R: Ranking>(
     list: &[Station],
     ranking: &R,
-    closing: Closing,
     out: &mut [u8],
 ) -> Result<usize, Fault>
-    ensures { Printed (listing (score ranking.now) (closing_line closing) list.now) out.old out.new result }
+    ensures { Printed (listing (R.score ranking.now) list.now) out.old out.new result }
 {
-    if !listing_fits(list, ranking, closing, out.len()) {
+    if !listing_fits(list, ranking, out.len()) {
         return Err(Fault {
             code: Code::ShortBuffer,
             first: 0,
             second: 0,
         });
     }
-    let mut end = 0;
-    for s in list {
-        end = put_numbers(out, end, &numbers_of(*s, ranking.rank(s.at)));
+    Ok(put_listing(list, ranking, Closing::Complete, out))
+}
+
+// Prints a line for each station, number, M1 to M4 and rank, and then the closing line.
+pub fn print_listing_closed<R: Ranking>(
+    list: &[Station],
+    ranking: &R,
+    closing: Closing,
+    out: &mut [u8],
+) -> Result<usize, Fault>
+    ensures { Printed (closed_listing (R.score ranking.now) (closing_line closing) list.now) out.old out.new result }
+{
+    if !closed_listing_fits(list, ranking, closing, out.len()) {
+        return Err(Fault {
+            code: Code::ShortBuffer,
+            first: 0,
+            second: 0,
+        });
     }
-    Ok(put_closing(out, end, closing))
+    Ok(put_listing(list, ranking, closing, out))
 }
 
 // Prints a refusal's code and its two places.

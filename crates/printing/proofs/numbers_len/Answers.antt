@@ -1,4 +1,4 @@
-use Rattle.std.proofs.Common.{◌≡◌, ◌+◌, ◌≤◌, length, get_or, drop, arith, rules}
+use Rattle.std.proofs.Common.{◌≡◌, ◌≤◌, length, get_or, drop, arith, rules}
 use Rattle.std.proofs.lemmas.List.{at_drop_all}
 use Rattle.printing.specs.Printed.{numbered}
 use Rattle.printing.proofs.Lengths.{digits-few, length-numbered-at}

@@ -1,17 +1,12 @@
-use Rattle.std.proofs.Common.{sym, arith, leb-true}
-use Rattle.printing.specs.Printed.{closing_line}
-use Rattle.printing.proofs.Lines.{line_room, line_written, done_room, listing-written}
+use Rattle.std.proofs.Common.{◌≤◌, length, sym, subst, leb-true}
+use Rattle.printing.proofs.Writing.{wrote_as, printed-all}
+use Rattle.printing.proofs.Lines.{listing_complete}
 use Rattle.printing.proofs.print_listing.Goals as goal
 
-pub put_numbers-end-requires : goal.put_numbers-end-requires
-put_numbers-end-requires g c =
-    omega (arith, line_room (g.R.Ranking.score c.args.ranking.now) (closing_line c.args.closing) c.args.list.now c.loop-s.s-index c.loop-s-test.true c.loop-s.invariant c.rank.result c.numbers_of.result c.rank.ensures c.numbers_of.ensures (leb-true _ _ (sym c.if-not-listing_fits.ensures)))
-
-pub loop-s-preserved : goal.loop-s-preserved
-loop-s-preserved g c = line_written (g.R.Ranking.score c.args.ranking.now) (closing_line c.args.closing) c.args.list.now c.loop-s.s-index c.loop-s-test.true c.loop-s.invariant c.rank.result c.numbers_of.result c.rank.ensures c.numbers_of.ensures c.put_numbers-end.ensures
-
-pub put_closing-requires : goal.put_closing-requires
-put_closing-requires g c = omega (arith, done_room (g.R.Ranking.score c.args.ranking.now) (closing_line c.args.closing) c.args.list.now c.loop-s.s-index c.loop-s-test.false c.loop-s.invariant (leb-true _ _ (sym c.if-not-listing_fits.ensures)))
+pub put_listing-requires : goal.put_listing-requires
+put_listing-requires g c =
+    subst (λ lines. length lines ≤ length c.args.out.now) (listing_complete (g.R.Ranking.score c.args.ranking.now) c.args.list.now)
+    (leb-true _ _ (sym c.if-not-listing_fits.ensures))
 
 pub returns : goal.returns
-returns g c = listing-written (g.R.Ranking.score c.args.ranking.now) (closing_line c.args.closing) c.args.list.now c.loop-s.s-index c.loop-s-test.false c.loop-s.invariant c.put_closing.ensures
+returns g c = printed-all (wrote_as (sym (listing_complete (g.R.Ranking.score c.args.ranking.now) c.args.list.now)) c.put_listing.ensures)

@@ -1,6 +1,5 @@
 use Rattle.std.proofs.Common.{◌≡◌, ◌+◌, ◌≤◌, length, drop, sym, ◌∙◌, arith, rules}
-use Rattle.printing.specs.Printed.{ender, numbered}
-use Rattle.printing.proofs.Writing.{writing_start}
+use Rattle.printing.specs.Printed.{ender}
 use Rattle.printing.proofs.Lengths.{ender-more, ender-last}
 use Rattle.printing.proofs.Lines.{number_room, number-written, numbers-written}
 use Rattle.printing.proofs.put_numbers.Goals as goal
