@@ -8,5 +8,6 @@ mod steps;
 
 pub use call::Call;
 pub use plays::{make, play};
+pub use promises::halts_for_three_reasons;
 pub use run::{Phase, Run};
 pub use waiting::{MOST_LISTED, MOST_WAITING};
