@@ -1,6 +1,6 @@
 -- What a page keeps that is not refused, and so each page of a walk that passes.
 use Rattle.std.proofs.Common.{◌≡◌, ℕ, zero, suc, ◌+◌, ◌*◌, ◌^◌, ◌<◌, ◌≤◌, Bool, true, false, cond, not, ◌&&◌, ◌||◌, eqb, leb, ◌⊎◌, List, [], ◌∷◌, length, Some, None, Option, sym, refl, ap, ◌∙◌, inl, inr, arith}
-use Rattle.std.specs.List.{range_with_len, AllByRecursion as All}
+use Rattle.std.specs.List.{range_with_len, AllByRecursion as Each}
 use Rattle.std.proofs.lemmas.Bool.{and_parts, or_cases, leb-true, eqb-false, eqb-true, not-true, not-false, cases_eq}
 use Rattle.std.proofs.lemmas.List.{append-nil}
 use Rattle.std.proofs.ByRecursion.{All-map, All-weaker}
@@ -23,17 +23,17 @@ pub record Fair (pages p : ℕ) (notes : Notes) (numbers : List ℕ) (s : Slot) 
   pub levels : level s ≤ 7
   pub sizes : size s ≤ 12
   pub filled : Filled p s
-  pub after : All (λ c. (p < c.page) × (c.page < pages)) (children_on s)
+  pub after : Each (λ c. (p < c.page) × (c.page < pages)) (children_on s)
   pub fits : (n : Naming) → note_of notes p ≡ Some n → Fits n.level n.bounds s
   pub reached : IsLive s → (p ≡ 0 → ⊥) → is_named notes p ≡ true
   pub named : (q : ℕ) → bit (is_named (notes_after notes s) q) ≡ bit (is_named notes q) + count (names q) (children_on s)
   pub kept : (q : ℕ) (n : Naming) → note_of notes q ≡ Some n → note_of (notes_after notes s) q ≡ Some n
-  pub noted : All (λ c. note_of (notes_after notes s) c.page ≡ Some (naming (level s) c)) (children_on s)
+  pub noted : Each (λ c. note_of (notes_after notes s) c.page ≡ Some (naming (level s) c)) (children_on s)
   pub long : length (notes_after notes s) ≡ length notes
-  pub ordered : All (λ c. c.bounds.low ≼ c.bounds.high) (children_on s)
-  pub boxes : All (λ c. Ordinary c.bounds.high) (children_on s)
-  pub measures : All (λ t. Ordinary t.at) (stations_on s)
-  pub positive : All (λ t. 1 ≤ t.number) (stations_on s)
+  pub ordered : Each (λ c. c.bounds.low ≼ c.bounds.high) (children_on s)
+  pub boxes : Each (λ c. Ordinary c.bounds.high) (children_on s)
+  pub measures : Each (λ t. Ordinary t.at) (stations_on s)
+  pub positive : Each (λ t. 1 ≤ t.number) (stations_on s)
   pub once : (n : ℕ) → bit (occurs n (numbers_after numbers s)) ≡ bit (occurs n numbers) + count (numbered n) (stations_on s)
 
 dead_fair : (pages p : ℕ) (notes : Notes) (numbers : List ℕ) → Fair pages p notes numbers dead

@@ -1,6 +1,6 @@
 -- Bytes that are not refused spell a lawful book.
 use Rattle.std.proofs.Common.{◌≡◌, ℕ, zero, suc, ◌+◌, ◌-◌, ◌%◌, ◌<◌, ◌≤◌, true, false, not, ◌||◌, eqb, ltb, ◌⊎◌, List, [], ◌∷◌, length, get_or, is_some, Some, None, Option, sym, refl, ap, ◌∙◌, subst, inl, inr, arith}
-use Rattle.std.specs.List.{flat_map, AllByRecursion as All}
+use Rattle.std.specs.List.{flat_map, AllByRecursion as Each}
 use Rattle.std.proofs.lemmas.Bool.{or_parts, ltb-false, cases_lt}
 use Rattle.std.proofs.lemmas.List.{get_or-replicate, get_or_past}
 use Rattle.std.proofs.ByRecursion.{All-append}
@@ -30,8 +30,8 @@ module _ (pages : ℕ) where
       each-place P past at (p + 1) (notes_after notes s) (numbers_after numbers s) ss f.1 i q (omega arith)
 
   -- what holds of the parts of every fair slot holds of all parts
-  each_part : {A : Type 0} (part : Slot → List A) (Q : A → Type 0) → ((p : ℕ) (notes : Notes) (numbers : List ℕ) (s : Slot) → Fair pages p notes numbers s → All Q (part s))
-      → (p : ℕ) (notes : Notes) (numbers : List ℕ) (ss : List Slot) → FairFrom pages p notes numbers ss → All Q (flat_map part ss)
+  each_part : {A : Type 0} (part : Slot → List A) (Q : A → Type 0) → ((p : ℕ) (notes : Notes) (numbers : List ℕ) (s : Slot) → Fair pages p notes numbers s → Each Q (part s))
+      → (p : ℕ) (notes : Notes) (numbers : List ℕ) (ss : List Slot) → FairFrom pages p notes numbers ss → Each Q (flat_map part ss)
   each_part part Q at p notes numbers [] f = tt
   each_part part Q at p notes numbers (s ∷ ss) f =
       All-append Q (part s) (flat_map part ss) (at p notes numbers s f.0) (each_part part Q at (p + 1) (notes_after notes s) (numbers_after numbers s) ss f.1)
@@ -46,11 +46,11 @@ module _ (pages : ℕ) where
 
   -- every named page fits: b has these slots from page p on
   children_fit : (b : Book) (p : ℕ) (notes : Notes) (numbers : List ℕ) (ss : List Slot) → ((i q : ℕ) → p + i ≡ q → get_or ss i dead ≡ slot b q) → FairFrom pages p notes numbers ss
-      → (i q : ℕ) → p + i ≡ q → All (λ c. Fits (level (slot b q)) c.bounds (slot b c.page)) (children_on (slot b q))
+      → (i q : ℕ) → p + i ≡ q → Each (λ c. Fits (level (slot b q)) c.bounds (slot b c.page)) (children_on (slot b q))
   children_fit b p notes numbers [] at f i q e =
-      subst (λ s. All (λ c. Fits (level s) c.bounds (slot b c.page)) (children_on s)) (at i q e) tt
+      subst (λ s. Each (λ c. Fits (level s) c.bounds (slot b c.page)) (children_on s)) (at i q e) tt
   children_fit b p notes numbers (s ∷ ss) at f zero q e =
-      subst (λ t. All (λ c. Fits (level t) c.bounds (slot b c.page)) (children_on t)) (at 0 q e)
+      subst (λ t. Each (λ c. Fits (level t) c.bounds (slot b c.page)) (children_on t)) (at 0 q e)
       (all_both (λ (c : Child). (p < c.page) × (c.page < pages)) (λ (c : Child). note_of (notes_after notes s) c.page ≡ Some (naming (level s) c)) (λ (c : Child). Fits (level s) c.bounds (slot b c.page)) one (children_on s) f.0.after f.0.noted)
     where
       one : (c : Child) → (p < c.page) × (c.page < pages) → note_of (notes_after notes s) c.page ≡ Some (naming (level s) c) → Fits (level s) c.bounds (slot b c.page)
@@ -111,7 +111,7 @@ module _ (b : Book) (fair : FairFrom (length b) 0 no_notes [] b) where
         levels = here (λ p s. level s ≤ 7) (λ q. omega arith) (λ p notes numbers s f. f.levels);
         sizes = here (λ p s. size s ≤ 12) (λ q. omega arith) (λ p notes numbers s f. f.sizes);
         filled = here Filled (λ q. tt) (λ p notes numbers s f. f.filled);
-        after = here (λ p s. All (λ c. (p < c.page) × (c.page < length b)) (children_on s)) (λ q. tt) (λ p notes numbers s f. f.after);
+        after = here (λ p s. Each (λ c. (p < c.page) × (c.page < length b)) (children_on s)) (λ q. tt) (λ p notes numbers s f. f.after);
         fits = λ p. children_fit (length b) b 0 no_notes [] b (λ i q e. let same : i ≡ q = omega arith in ap (slot b) same) fair p p (omega arith);
         reached = λ p alive below. let h = all-reached (length b) 0 no_notes [] b fair p p (omega arith) alive below in let z = ap bit (none_named p) in omega arith;
         named_once = λ p. let h = all-named-once (length b) 0 no_notes [] b fair p in omega arith;

@@ -1,6 +1,6 @@
 -- What the entries of a page keep where none is refused.
 use Rattle.std.proofs.Common.{◌≡◌, ℕ, ◌+◌, ◌<◌, ◌≤◌, Bool, true, false, ◌||◌, eqb, leb, ◌⊎◌, List, [], ◌∷◌, ◌++◌, map, length, is_some, Some, None, Option, sym, refl, ap, ◌∙◌, subst, inl, inr, arith}
-use Rattle.std.specs.List.{AllByRecursion as All}
+use Rattle.std.specs.List.{AllByRecursion as Each}
 use Rattle.std.proofs.lemmas.Bool.{and_parts, or_parts, leb-false, eqb-false, eq-eqb, ne_eqb, not-false, cases_eq, both_ways}
 use Rattle.std.proofs.lemmas.List.{length-set, get_or-set_same, get_or-set_other, append_assoc, append-nil}
 use Rattle.stations.specs.declared.measures.Measures.{Measures}
@@ -78,12 +78,12 @@ note-counts l notes c h fresh q = by (cases_eq q c.page)
 
 -- named pages that are not refused
 pub record ChildrenPass (pages p : ℕ) (nm : Option Naming) (l : ℕ) (notes : Notes) (cs : List Child) : Type 0 where
-  pub after : All (λ c. (p < c.page) × (c.page < pages)) cs
-  pub ordered : All (λ c. c.bounds.low ≼ c.bounds.high) cs
-  pub held : All (λ c. HeldBy nm c.bounds.low c.bounds.high) cs
+  pub after : Each (λ c. (p < c.page) × (c.page < pages)) cs
+  pub ordered : Each (λ c. c.bounds.low ≼ c.bounds.high) cs
+  pub held : Each (λ c. HeldBy nm c.bounds.low c.bounds.high) cs
   pub counted : (q : ℕ) → bit (is_named (note_all l notes cs) q) ≡ bit (is_named notes q) + count (names q) cs
   pub kept : (q : ℕ) (n : Naming) → note_of notes q ≡ Some n → note_of (note_all l notes cs) q ≡ Some n
-  pub noted : All (λ c. note_of (note_all l notes cs) c.page ≡ Some (naming l c)) cs
+  pub noted : Each (λ c. note_of (note_all l notes cs) c.page ≡ Some (naming l c)) cs
   pub long : length (note_all l notes cs) ≡ length notes
 
 pub children-pass : (pages p : ℕ) (nm : Option Naming) (l : ℕ) (notes : Notes) (i : ℕ) (cs : List Child) → pages ≤ length notes → children_fault pages p nm l notes i cs ≡ None → ChildrenPass pages p nm l notes cs
@@ -154,8 +154,8 @@ station-passes p nm numbers i s e =
 
 -- stations that are not refused
 pub record StationsPass (nm : Option Naming) (numbers : List ℕ) (ss : List Station) : Type 0 where
-  pub positive : All (λ s. 1 ≤ s.number) ss
-  pub held : All (λ s. HeldBy nm s.at s.at) ss
+  pub positive : Each (λ s. 1 ≤ s.number) ss
+  pub held : Each (λ s. HeldBy nm s.at s.at) ss
   pub counted : (n : ℕ) → bit (occurs n (numbers ++ map (λ s. s.number) ss)) ≡ bit (occurs n numbers) + count (numbered n) ss
 
 pub stations-pass : (p : ℕ) (nm : Option Naming) (numbers : List ℕ) (i : ℕ) (ss : List Station) → stations_fault p nm numbers i ss ≡ None → StationsPass nm numbers ss

@@ -1,6 +1,6 @@
 -- Bytes that spell a lawful book are not refused, and the other way round.
 use Rattle.std.proofs.Common.{◌≡◌, ℕ, zero, suc, ◌+◌, ◌%◌, ◌<◌, ◌≤◌, Bool, true, false, cond, not, ◌&&◌, ◌||◌, eqb, ltb, leb, ◌⊎◌, List, [], ◌∷◌, ◌++◌, map, length, get_or, is_some, is_ok, Some, None, Err, Decides, Option, Result, sym, refl, ap, ◌∙◌, subst, inl, inr, arith}
-use Rattle.std.specs.List.{AllByRecursion as All}
+use Rattle.std.specs.List.{AllByRecursion as Each}
 use Rattle.std.proofs.lemmas.Bool.{and_from, and_parts, or_from, or_left, or_right, or_parts, le-leb, lt-leb, eq-eqb, ne_eqb, eqb-true, ltb-false, le-ltb, not-false, not_from_true, not_from_false, cases_eq, cases_lt, both_ways}
 use Rattle.std.proofs.lemmas.List.{get_or-set_same, get_or-set_other, get_or_past, set_past}
 use Rattle.std.proofs.ByRecursion.{All-weaker}
@@ -76,8 +76,8 @@ numbers_le n (s ∷ ss) = by (eqb s.number n) (occurs n (map (λ (t : Station). 
     by false u h = omega arith
 
 module _ (pages p : ℕ) (nm : Option Naming) (l : ℕ) where
-  children-fine : (notes : Notes) (i : ℕ) (cs : List Child) → All (λ c. (p < c.page) × (c.page < pages)) cs → All (λ c. c.bounds.low ≼ c.bounds.high) cs
-      → All (λ c. is_within nm c.bounds.low c.bounds.high ≡ true) cs → ((q : ℕ) → bit (is_named notes q) + count (names q) cs ≤ 1) → children_fault pages p nm l notes i cs ≡ None
+  children-fine : (notes : Notes) (i : ℕ) (cs : List Child) → Each (λ c. (p < c.page) × (c.page < pages)) cs → Each (λ c. c.bounds.low ≼ c.bounds.high) cs
+      → Each (λ c. is_within nm c.bounds.low c.bounds.high ≡ true) cs → ((q : ℕ) → bit (is_named notes q) + count (names q) cs ≤ 1) → children_fault pages p nm l notes i cs ≡ None
   children-fine notes i [] after ordered within once = refl
   children-fine notes i (c ∷ cs) after ordered within once =
       let above = after.0.0 in
@@ -91,7 +91,7 @@ module _ (pages p : ℕ) (nm : Option Naming) (l : ℕ) where
       (children-fine (note_one l notes c) (i + 1) cs after.1 ordered.1 within.1 (λ q. let a = once q in let b = note_le l notes c q in omega arith))
 
 module _ (p : ℕ) (nm : Option Naming) where
-  stations-fine : (numbers : List ℕ) (i : ℕ) (ss : List Station) → All (λ s. 1 ≤ s.number) ss → All (λ s. is_within nm s.at s.at ≡ true) ss
+  stations-fine : (numbers : List ℕ) (i : ℕ) (ss : List Station) → Each (λ s. 1 ≤ s.number) ss → Each (λ s. is_within nm s.at s.at ≡ true) ss
       → ((n : ℕ) → bit (occurs n numbers) + count (numbered n) ss ≤ 1) → stations_fault p nm numbers i ss ≡ None
   stations-fine numbers i [] positive within once = refl
   stations-fine numbers i (s ∷ ss) positive within once =
@@ -108,13 +108,13 @@ module _ (p : ℕ) (nm : Option Naming) where
       only true = refl
       only false = refl
 
-within-stations : (nm : Option Naming) (ss : List Station) → ((n : Naming) → nm ≡ Some n → All (λ s. Inside s.at n.bounds) ss) → All (λ s. is_within nm s.at s.at ≡ true) ss
+within-stations : (nm : Option Naming) (ss : List Station) → ((n : Naming) → nm ≡ Some n → Each (λ s. Inside s.at n.bounds) ss) → Each (λ s. is_within nm s.at s.at ≡ true) ss
 within-stations None ss h = all_of (λ (s : Station). is_within None s.at s.at ≡ true) (λ s. refl) ss
 within-stations (Some m) ss h =
     All-weaker (λ (s : Station). Inside s.at m.bounds) (λ (s : Station). is_within (Some m) s.at s.at ≡ true)
     (λ s k. and_from _ _ (at_most_lem _ _ k.above) (at_most_lem _ _ k.below)) ss (h m refl)
 
-within-children : (nm : Option Naming) (cs : List Child) → ((n : Naming) → nm ≡ Some n → All (λ c. Nested c.bounds n.bounds) cs) → All (λ c. is_within nm c.bounds.low c.bounds.high ≡ true) cs
+within-children : (nm : Option Naming) (cs : List Child) → ((n : Naming) → nm ≡ Some n → Each (λ c. Nested c.bounds n.bounds) cs) → Each (λ c. is_within nm c.bounds.low c.bounds.high ≡ true) cs
 within-children None cs h = all_of (λ (c : Child). is_within None c.bounds.low c.bounds.high ≡ true) (λ c. refl) cs
 within-children (Some m) cs h =
     All-weaker (λ (c : Child). Nested c.bounds m.bounds) (λ (c : Child). is_within (Some m) c.bounds.low c.bounds.high ≡ true)
@@ -129,9 +129,9 @@ record Clean (pages p : ℕ) (notes : Notes) (numbers : List ℕ) (s : Slot) : T
   levels : level s ≤ 7
   sizes : size s ≤ 12
   filled : Filled p s
-  after : All (λ c. (p < c.page) × (c.page < pages)) (children_on s)
-  ordered : All (λ c. c.bounds.low ≼ c.bounds.high) (children_on s)
-  positive : All (λ t. 1 ≤ t.number) (stations_on s)
+  after : Each (λ c. (p < c.page) × (c.page < pages)) (children_on s)
+  ordered : Each (λ c. c.bounds.low ≼ c.bounds.high) (children_on s)
+  positive : Each (λ t. 1 ≤ t.number) (stations_on s)
   fits : (n : Naming) → note_of notes p ≡ Some n → Fits n.level n.bounds s
   named : (q : ℕ) → bit (is_named notes q) + count (names q) (children_on s) ≤ 1
   once : (n : ℕ) → bit (occurs n numbers) + count (numbered n) (stations_on s) ≤ 1
@@ -168,20 +168,20 @@ module _ (pages p : ℕ) (notes : Notes) (numbers page : List ℕ) where
       by true is c = page-fine (padded is) c
       by false is c = refl
 
-all-front : {A : Type 0} (Q : A → Type 0) (xs ys : List A) → All Q (xs ++ ys) → All Q xs
+all-front : {A : Type 0} (Q : A → Type 0) (xs ys : List A) → Each Q (xs ++ ys) → Each Q xs
 all-front Q [] ys h = tt
 all-front Q (x ∷ xs) ys h = (h.0, all-front Q xs ys h.1)
 
-all_back : {A : Type 0} (Q : A → Type 0) (xs ys : List A) → All Q (xs ++ ys) → All Q ys
+all_back : {A : Type 0} (Q : A → Type 0) (xs ys : List A) → Each Q (xs ++ ys) → Each Q ys
 all_back Q [] ys h = h
 all_back Q (x ∷ xs) ys h = all_back Q xs ys h.1
 
-children-of : (Q : Child → Type 0) (b : Book) (p : ℕ) → All Q (named b) → All Q (children_on (slot b p))
+children-of : (Q : Child → Type 0) (b : Book) (p : ℕ) → Each Q (named b) → Each Q (children_on (slot b p))
 children-of Q [] p h = tt
 children-of Q (s ∷ b) zero h = all-front Q (children_on s) (named b) h
 children-of Q (s ∷ b) (suc p) h = children-of Q b p (all_back Q (children_on s) (named b) h)
 
-stations-of : (Q : Station → Type 0) (b : Book) (p : ℕ) → All Q (stations b) → All Q (stations_on (slot b p))
+stations-of : (Q : Station → Type 0) (b : Book) (p : ℕ) → Each Q (stations b) → Each Q (stations_on (slot b p))
 stations-of Q [] p h = tt
 stations-of Q (s ∷ b) zero h = all-front Q (stations_on s) (stations b) h
 stations-of Q (s ∷ b) (suc p) h = stations-of Q b p (all_back Q (stations_on s) (stations b) h)
@@ -199,7 +199,7 @@ fits-noted b l notes c here before q n is = by (cases_eq q c.page) (cases_lt c.p
     by (inl same) (inr past) = before q n (sym (ap (λ ns. note_of ns q) (set_past notes c.page (Some (naming l c)) past)) ∙ is)
     by (inr other) w = before q n (sym (get_or-set_other notes c.page q (Some (naming l c)) None other) ∙ is)
 
-all-fits-noted : (b : Book) (l : ℕ) (notes : Notes) (cs : List Child) → All (λ c. Fits l c.bounds (slot b c.page)) cs → ((q : ℕ) (n : Naming) → note_of notes q ≡ Some n → Fits n.level n.bounds (slot b q))
+all-fits-noted : (b : Book) (l : ℕ) (notes : Notes) (cs : List Child) → Each (λ c. Fits l c.bounds (slot b c.page)) cs → ((q : ℕ) (n : Naming) → note_of notes q ≡ Some n → Fits n.level n.bounds (slot b q))
     → (q : ℕ) (n : Naming) → note_of (note_all l notes cs) q ≡ Some n → Fits n.level n.bounds (slot b q)
 all-fits-noted b l notes [] fits before = before
 all-fits-noted b l notes (c ∷ cs) fits before = all-fits-noted b l (note_one l notes c) cs fits.1 (fits-noted b l notes c fits.0 before)
@@ -218,7 +218,7 @@ module _ (b : Book) (lawful : Lawful b) where
       (walk_fine (p + 1) (notes_after notes s) (numbers_after numbers s) rest
       (λ i q e. at (suc i) q (omega arith))
       (λ i q e. padded (suc i) q (omega arith))
-      (all-fits-noted b (level s) notes (children_on s) (subst (λ t. All (λ c. Fits (level t) c.bounds (slot b c.page)) (children_on t)) here (lawful.fits p)) fits)
+      (all-fits-noted b (level s) notes (children_on s) (subst (λ t. Each (λ c. Fits (level t) c.bounds (slot b c.page)) (children_on t)) here (lawful.fits p)) fits)
       (λ q. let a = named' q in let d = count_append (names q) (children_on s) (named (slots_from (p + 1) (notes_after notes s) rest)) in let e = notes_le (level s) notes (children_on s) q in omega arith)
       (λ n. let a = once n in let d = count_append (numbered n) (stations_on s) (stations (slots_from (p + 1) (notes_after notes s) rest)) in let e = occurs_append n numbers (map (λ (t : Station). t.number) (stations_on s)) in let f = numbers_le n (stations_on s) in omega arith))
     where
@@ -244,9 +244,9 @@ module _ (b : Book) (lawful : Lawful b) where
             levels = subst (λ t. level t ≤ 7) here (lawful.levels p);
             sizes = subst (λ t. size t ≤ 12) here (lawful.sizes p);
             filled = subst (Filled p) here (lawful.filled p);
-            after = subst (λ t. All (λ c. (p < c.page) × (c.page < length b)) (children_on t)) here (lawful.after p);
-            ordered = subst (λ t. All (λ c. c.bounds.low ≼ c.bounds.high) (children_on t)) here (children-of _ b p lawful.ordered);
-            positive = subst (λ t. All (λ (u : Station). 1 ≤ u.number) (stations_on t)) here (stations-of _ b p lawful.numbers);
+            after = subst (λ t. Each (λ c. (p < c.page) × (c.page < length b)) (children_on t)) here (lawful.after p);
+            ordered = subst (λ t. Each (λ c. c.bounds.low ≼ c.bounds.high) (children_on t)) here (children-of _ b p lawful.ordered);
+            positive = subst (λ t. Each (λ (u : Station). 1 ≤ u.number) (stations_on t)) here (stations-of _ b p lawful.numbers);
             fits = λ n is. subst (Fits n.level n.bounds) here (fits p n is);
             named = λ q. let a = named' q in let d = count_append (names q) (children_on (slot_at notes p page)) (named (slots_from (p + 1) (notes_after notes (slot_at notes p page)) rest)) in omega arith;
             once = λ n. let a = once n in let d = count_append (numbered n) (stations_on (slot_at notes p page)) (stations (slots_from (p + 1) (notes_after notes (slot_at notes p page)) rest)) in omega arith;

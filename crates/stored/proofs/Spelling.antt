@@ -1,6 +1,6 @@
 -- Bytes whose pages spell a lawful book spell that book.
 use Rattle.std.proofs.Common.{◌≡◌, ℕ, zero, suc, ◌+◌, ◌<◌, ◌≤◌, Bool, true, false, cond, not, ◌&&◌, ◌||◌, eqb, ◌⊎◌, List, [], ◌∷◌, length, get_or, is_some, Some, None, sym, refl, ap, ◌∙◌, subst, inl, inr, arith}
-use Rattle.std.specs.List.{AllByRecursion as All}
+use Rattle.std.specs.List.{AllByRecursion as Each}
 use Rattle.std.proofs.lemmas.Bool.{eq-eqb, ne_eqb, or_left, or_right, cases_eq}
 use Rattle.std.proofs.lemmas.List.{length-set, get_or-set_same, get_or-set_other}
 use Rattle.std.proofs.ByRecursion.{All-weaker}
@@ -29,29 +29,29 @@ note_ge l notes c q inside h = by (cases_eq q c.page)
         let keeps = ap (λ o. bit (is_some o)) (get_or-set_other notes c.page q (Some (naming l c)) None other) in
         let none = ap bit (ne_eqb c.page q (λ e. other (sym e))) in omega arith
 
-notes_ge : (l : ℕ) (notes : Notes) (cs : List Child) (q : ℕ) → All (λ c. c.page < length notes) cs → 1 ≤ bit (is_named notes q) + count (names q) cs → 1 ≤ bit (is_named (note_all l notes cs) q)
+notes_ge : (l : ℕ) (notes : Notes) (cs : List Child) (q : ℕ) → Each (λ c. c.page < length notes) cs → 1 ≤ bit (is_named notes q) + count (names q) cs → 1 ≤ bit (is_named (note_all l notes cs) q)
 notes_ge l notes [] q inside h = omega arith
 notes_ge l notes (c ∷ cs) q inside h = notes_ge l (note_one l notes c) cs q rest (by (bit (is_named notes q) + bit (names q c)) refl)
   where
     long : length (note_one l notes c) ≡ length notes
     long = length-set notes c.page (Some (naming l c))
 
-    rest : All (λ d. d.page < length (note_one l notes c)) cs
-    rest = subst (λ n. All (λ (d : Child). d.page < n) cs) (sym long) inside.1
+    rest : Each (λ d. d.page < length (note_one l notes c)) cs
+    rest = subst (λ n. Each (λ (d : Child). d.page < n) cs) (sym long) inside.1
 
     by : (n : ℕ) → n ≡ bit (is_named notes q) + bit (names q c) → 1 ≤ bit (is_named (note_one l notes c) q) + count (names q) cs
     by zero e = omega arith
     by (suc n) e = let a = note_ge l notes c q inside.0 (omega arith) in omega arith
 
 -- pages name only later ones
-later-names : (N : ℕ) (q : ℕ) (cs : List Child) (p : ℕ) → q ≤ p → All (λ c. (p < c.page) × (c.page < N)) cs → count (names q) cs ≡ 0
+later-names : (N : ℕ) (q : ℕ) (cs : List Child) (p : ℕ) → q ≤ p → Each (λ c. (p < c.page) × (c.page < N)) cs → count (names q) cs ≡ 0
 later-names N q [] p h all = refl
 later-names N q (c ∷ cs) p h all =
     let above = all.0.0 in
     let none = ap bit (ne_eqb c.page q (λ e. omega arith)) in
     let rest = later-names N q cs p h all.1 in omega arith
 
-none-later : (N : ℕ) (q p : ℕ) (ss : List Slot) → q ≤ p → ((i k : ℕ) → p + i ≡ k → All (λ c. (k < c.page) × (c.page < N)) (children_on (get_or ss i dead))) → count (names q) (named ss) ≡ 0
+none-later : (N : ℕ) (q p : ℕ) (ss : List Slot) → q ≤ p → ((i k : ℕ) → p + i ≡ k → Each (λ c. (k < c.page) × (c.page < N)) (children_on (get_or ss i dead))) → count (names q) (named ss) ≡ 0
 none-later N q p [] h after = refl
 none-later N q p (s ∷ ss) h after =
     let a = later-names N q (children_on s) p h (after 0 p (omega arith)) in
@@ -80,7 +80,7 @@ slot_same notes p page s e counts = by (is_marked_dead page) e
 slots_same : (N p : ℕ) (notes : Notes) (rest : List (List ℕ)) (ss : List Slot) → length rest ≡ length ss → N ≤ length notes
     → ((i : ℕ) → i < length ss → spelled_slot (get_or rest i []) ≡ get_or ss i dead)
     → ((i q : ℕ) → p + i ≡ q → IsLive (get_or ss i dead) → (q ≡ 0 → ⊥) → 1 ≤ bit (is_named notes q) + count (names q) (named ss))
-    → ((i k : ℕ) → p + i ≡ k → All (λ c. (k < c.page) × (c.page < N)) (children_on (get_or ss i dead)))
+    → ((i k : ℕ) → p + i ≡ k → Each (λ c. (k < c.page) × (c.page < N)) (children_on (get_or ss i dead)))
     → slots_from p notes rest ≡ ss
 slots_same N p notes [] [] long fit each reach after = refl
 slots_same N p notes [] (s ∷ ss) long fit each reach after = let no_way : ⊥ = omega arith in absurd no_way
@@ -127,7 +127,7 @@ pages_spell_books bytes b few lawful h =
     slots_same (length b) 0 no_notes (pages_in bytes) b long few
     (λ i below. ap spelled_slot (get_or-map-range_with_len (page_bytes bytes) 0 (page_count bytes) i i [] (omega arith) (omega arith)) ∙ h.each i below)
     (λ i q e alive below. let same : i ≡ q = omega arith in let a = lawful.reached q (subst (λ k. IsLive (slot b k)) same alive) below in omega arith)
-    (λ i k e. let same : i ≡ k = omega arith in subst (λ j. All (λ (c : Child). (k < c.page) × (c.page < length b)) (children_on (slot b j))) (sym same) (lawful.after k))
+    (λ i k e. let same : i ≡ k = omega arith in subst (λ j. Each (λ (c : Child). (k < c.page) × (c.page < length b)) (children_on (slot b j))) (sym same) (lawful.after k))
 
 -- a slot goes by what its page spells
 slot-by : (notes : Notes) (p : ℕ) (page : List ℕ) → slot_at notes p page ≡ cond (eqb p 0 || is_named notes p) (spelled_slot page) dead

@@ -17,8 +17,10 @@ pub(crate) struct Numbers {
 }
 
 impl Numbers {
+    ghost use Rattle.stored.specs.Listed.{listed};
+
     pub(crate) fn new() -> Numbers
-        ensures none { take result.len result.all ≡ [] }
+        ensures none { listed result ≡ [] }
         ensures start { result.len ≡ 0 }
     {
         Numbers {
@@ -30,14 +32,14 @@ impl Numbers {
 
     pub(crate) fn has(&self, number: u32) -> bool
         requires { self.now.len ≤ 3072 }
-        ensures { result ≡ occurs number (take self.now.len self.now.all) }
+        ensures { result ≡ occurs number (listed self.now) }
     {
         self.marks.may_hold(number) && has_number(&self.all[0..self.len], number)
     }
 
     pub(crate) fn push(&mut self, number: u32)
         requires { self.old.len < 3072 }
-        ensures list { take self.new.len self.new.all ≡ take self.old.len self.old.all ++ number ∷ [] }
+        ensures list { listed self.new ≡ listed self.old ++ number ∷ [] }
         ensures more { self.new.len ≡ self.old.len + 1 }
     {
         self.all[self.len] = number;

@@ -16,7 +16,7 @@ invariant_of-self c =
     let number = c.args.number in
     let room : old.len < length old.all = search rules in
     let on = take_more_set old.all old.len number room in
-    (covers_more old.marks c.mark.new.self number c.mark.ensures.lows c.mark.ensures.highs (λ n. occurs n (take old.len old.all)) _ (λ n h. occurs-last n (take old.len old.all) number (sym (ap (occurs n) on) ∙ h)) old.covered, tt)
+    record { covered = covers_more old.marks c.mark.new.self number c.mark.ensures.lows c.mark.ensures.highs (λ n. occurs n (take old.len old.all)) _ (λ n h. occurs-last n (take old.len old.all) number (sym (ap (occurs n) on) ∙ h)) old.covered }
 
 pub returns : goal.returns
 returns c = record { list = take_more_set c.args.self.now.all c.args.self.now.len c.args.number (search rules); more = refl }

@@ -44,7 +44,7 @@ invariant_of-self c =
     let fine = passed _ (sym c.check_length.ensures ∙ c.in_ok-check_length.was) in
     let e = pages_decide bytes fine ∙ passed _ (sym c.check_pages.ensures.answer ∙ c.in_ok-check_pages.was) in
     let many = fair_length bytes fine in
-    (many.0, (many.1, (spelled-length bytes, (∣ spelled-lawful bytes e ∣₁, (c.check_pages.ensures.marked c.in_ok-check_pages.was ∙ ap marks (spelled_is bytes), (omega arith, tt))))))
+    record { some = many.0; fits = many.1; sized = spelled-length bytes; lawful = ∣ spelled-lawful bytes e ∣₁; marked = c.check_pages.ensures.marked c.in_ok-check_pages.was ∙ ap marks (spelled_is bytes); metered = omega arith }
 
 pub returns : goal.returns
 returns c =
