@@ -6,11 +6,10 @@ use rankings::{LargestProduct, Ranker, Ranking, WeightedSum, Weights};
 use rolls::Roll;
 use scans::scan;
 use search::Run;
-use sources::PageSource;
+use sources::{Page, PageSource};
 use stations::{Fault, Key, Kind, Measures, Question, Region, Station};
 use std::alloc::Global;
 use stored::Stored;
-use writer::{CodeKey, write_book};
 
 // Numbers that look random, the same in every run.
 #[derive(Drop)]
@@ -43,7 +42,7 @@ struct Ended {
     handed: usize,
 }
 
-// Asks the question, and drives the search until it says done or refuses.
+// Starts the question and calls next until it says done or refuses.
 fn drive<S: PageSource + Drop, R: Ranking + Drop>(
     heap: Global,
     source: S,
@@ -51,13 +50,24 @@ fn drive<S: PageSource + Drop, R: Ranking + Drop>(
     question: Question,
 ) -> anyhow::Result<Ended> {
     let mut run = Run::new(source, ranking);
-    let mut fault = run.start(question).err();
-    if fault.is_none() {
-        fault = run.drive().err();
+    let mut listed = Vec::new(heap);
+    let mut fault = None;
+    if let Err(f) = run.start(question) {
+        fault = Some(f);
+    }
+    for _ in 0..600 {
+        match run.next() {
+            Ok(Some(station)) => listed.push(station)?,
+            Ok(None) => break,
+            Err(f) => {
+                fault = Some(f);
+                break;
+            }
+        }
     }
     let (pages, handed) = run.tally();
     Ok(Ended {
-        listed: run.listed().to_vec(heap)?,
+        listed,
         fault,
         pages,
         handed,
@@ -173,27 +183,67 @@ fn ranking(dice: &mut Dice) -> anyhow::Result<Ranker> {
     Ok(Ranker::Largest(LargestProduct { weights }))
 }
 
-// What stands in a work buffer before a key is put there.
-const NO_KEY: CodeKey = CodeKey {
-    code: 0,
-    number: 0,
-    place: 0,
-};
+fn put(bytes: &mut Vec<u8>, n: u16) -> anyhow::Result<()> {
+    bytes.push((n >> 8) as u8)?;
+    bytes.push((n & 255) as u8)?;
+    Ok(())
+}
 
-// The stored book of the row, with some pages marked dead.
+fn put_measures(bytes: &mut Vec<u8>, at: Measures) -> anyhow::Result<()> {
+    put(bytes, at.m1)?;
+    put(bytes, at.m2)?;
+    put(bytes, at.m3)?;
+    put(bytes, at.m4)
+}
+
+// A page in 256 bytes.
+fn put_page(bytes: &mut Vec<u8>, page: &Page) -> anyhow::Result<()> {
+    let start = bytes.len();
+    bytes.push(page.level)?;
+    bytes.push((page.len & 255) as u8)?;
+    for _ in 0..6 {
+        bytes.push(0)?;
+    }
+    for entry in &page.entries[0..page.len] {
+        match *entry {
+            Entry::Station(station) => {
+                put(bytes, (station.number >> 16) as u16)?;
+                put(bytes, (station.number & 0xffff) as u16)?;
+                put_measures(bytes, station.at)?;
+            }
+            Entry::Page(Child { page, bounds }) => {
+                put(bytes, (page & 0xffff) as u16)?;
+                put_measures(bytes, bounds.low)?;
+                put_measures(bytes, bounds.high)?;
+            }
+        }
+    }
+    for _ in 0..256 {
+        if bytes.len() < start.saturating_add(256) {
+            bytes.push(0)?;
+        }
+    }
+    Ok(())
+}
+
+// The roll of the row as a stored book, with some pages marked dead.
 fn stored_bytes(
     heap: Global,
     dice: &mut Dice,
     row: &[Station],
     deaths: u32,
 ) -> anyhow::Result<Vec<u8>> {
-    let mut work = vec![in heap; NO_KEY; 1152]?;
-    let mut bytes = vec![in heap; 0u8; 26_880]?;
-    let Ok(len) = write_book(row, work.as_mut_slice(), bytes.as_mut_slice()) else {
-        return Err(anyhow!("the row is refused"));
-    };
-    bytes.truncate(len);
-    let pages = (len / 256 & 255) as u32;
+    let mut roll = Roll::new();
+    let mut bytes = Vec::new(heap);
+    if roll.load(row).is_err() {
+        return Ok(bytes);
+    }
+    let pages = roll.pages();
+    for number in 0..pages {
+        if let Ok(page) = roll.read(number) {
+            put_page(&mut bytes, &page)?;
+        }
+    }
     for _ in 0..deaths {
         let at = dice.below(pages) as usize * 256;
         if at < bytes.len() {
