@@ -7,7 +7,7 @@ use Rattle.stations.specs.declared.measures.Measures.{Measures}
 use Rattle.stations.specs.declared.station.Station.{Station}
 use Rattle.stations.specs.Counting.{bit, count}
 use Rattle.books.specs.Lists.{◌∈◌, here, there}
-use Rattle.books.specs.Books.{Book, Slot, dead, leaf, node, slot, stations_on, named, stations, numbered, IsLive, is_dead, Inside, Lawful}
+use Rattle.books.specs.Books.{Book, Slot, dead, leaf, node, slot, stations_on, stations, numbered, IsLive, is_dead, Inside, Lawful}
 use Rattle.promises.proofs.Lists.{in_kept, of-kept, count_kept_le, nothing_in, count_mem, count_none}
 use Rattle.promises.proofs.Books.{dead-true, dead_or_live, of_joined, in_joined}
 use Rattle.promises.proofs.Placing.{Home, home, homes_on, homes, houses, count-homes, home-ok, Open, of-written, slot-grown, joined_grown, leaf-lawful, last-child, node-lawful}

@@ -1,17 +1,15 @@
 -- The promises, from what is opened as far as a bound and from the row.
-use Rattle.std.proofs.Common.{◌≡◌, ℕ, zero, suc, ◌<◌, ◌≤◌, Bool, true, false, ltb, ◌⊎◌, [], ◌++◌, length, take, Some, None, Ok, Err, Option, Result, sym, refl, ap, ◌∙◌, subst, inl, inr, ⊎_elim, arith}
+use Rattle.std.proofs.Common.{◌≡◌, ℕ, zero, suc, ◌≤◌, Bool, true, false, ◌⊎◌, [], ◌++◌, length, take, Some, None, Ok, Err, Option, Result, sym, refl, ap, ◌∙◌, subst, inl, inr, ⊎_elim, arith}
 use Rattle.std.specs.List.{AllByRecursion as All}
 use Rattle.std.proofs.lemmas.List.{take_all}
-use Rattle.std.proofs.lemmas.Bool.{both_ways, ltb-true, le-ltb, lt-leb, not-true, not_from_false}
+use Rattle.std.proofs.lemmas.Bool.{both_ways, not-true, not_from_false}
 use Rattle.stations.specs.declared.station.Station as stated
 use Rattle.stations.specs.declared.key.Key.{Key}
 use Rattle.stations.specs.declared.fault.Fault.{Fault}
-use Rattle.stations.specs.declared.fault.Code.TheVariants.{DeadPage, WaitingFull, ListFull}
-use Rattle.stations.specs.Faults.{fault, refuse_if, or_else}
+use Rattle.stations.specs.declared.fault.Code.TheVariants.{DeadPage}
+use Rattle.stations.specs.Faults.{fault, refuse_if}
 use Rattle.stations.specs.Keys.{before}
 use Rattle.books.specs.declared.Child.{Child}
-use Rattle.books.specs.declared.Entry.{Entry}
-use Rattle.books.specs.declared.Entry.TheVariants.{Station}
 use Rattle.books.specs.Lists.{Pairwise, ◌∈◌, here}
 use Rattle.books.specs.Books.{Book, dead, slot, named, children_on, IsLive, Lawful}
 use Rattle.promises.specs.Bounds.{Bound, all, below, up_to, within}
@@ -19,15 +17,15 @@ use Rattle.promises.specs.Queries.{Query, Laws, station_key, page_key, field, an
 use Rattle.promises.specs.Opening.{calls, called_for, opened, listed}
 use Rattle.promises.specs.Foundations.{Agree}
 use Rattle.promises.specs.Settling.{Keeps, NamedFrom, Settles}
-use Rattle.promises.specs.Waiting.{key_of, waiting}
+use Rattle.promises.specs.Waiting.{key_of}
 use Rattle.promises.specs.Searching.{Limits, top_key, Ending, done, halted, listed_bound, opened_bound, last_reply, bound_at, row, open_fault, halt_at, first_halt, ending, handed, next, handed_after, opened_after, Unhindered, Within}
 use Rattle.promises.specs.Promises.{Begins, Sound, SoundDone, Frugal, Decisive, Exact}
-use Rattle.promises.proofs.Lists.{all-at, all_from, of-kept, pairwise_kept, begins-kept, kept-none, kept-all, kept-kept, length-kept, count_less, count-all}
-use Rattle.promises.proofs.Keys.{before_same, within-before, within-up_to, kinds_either}
-use Rattle.promises.proofs.Books.{dead-true, false-live, of_joined, shape}
+use Rattle.promises.proofs.Lists.{all-at, all_from, of-kept, pairwise_kept, begins-kept, kept-none, kept-all, kept-kept}
+use Rattle.promises.proofs.Keys.{within-before, within-up_to, kinds_either}
+use Rattle.promises.proofs.Books.{dead-true, of_joined, shape}
 use Rattle.promises.proofs.Theory.{same_answers, in_opened, opened-all, opened-wider, l3}
 use Rattle.promises.proofs.Frugal.{holds, holds-many}
-use Rattle.promises.proofs.Rows.{not_after, top-first, some-none, same_some, one_fails, rising-answer, of_row, first_cases, HaltsAt, no_halt, past_top, at_top, live-opened, Hands, Ends, call_cases}
+use Rattle.promises.proofs.Rows.{not_after, top-first, some-none, same_some, one_fails, rising-answer, of_row, first_cases, HaltsAt, past_top, at_top, live-opened, Hands, Ends, call_cases}
 
 -- what lies before the end was opened by then
 listed-opened : (e : Ending) (k : Key) → within (listed_bound e) k ≡ true → within (opened_bound e) k ≡ true
