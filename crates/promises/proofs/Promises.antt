@@ -1,6 +1,6 @@
 -- The promises, from what is opened as far as a bound and from the row.
 use Rattle.std.proofs.Common.{◌≡◌, ℕ, zero, suc, ◌≤◌, Bool, true, false, ◌⊎◌, [], ◌++◌, length, take, Some, None, Ok, Err, Option, Result, sym, refl, ap, ◌∙◌, subst, inl, inr, ⊎_elim, arith}
-use Rattle.std.specs.List.{AllByRecursion as All}
+use Rattle.std.specs.List.{AllByRecursion as Each}
 use Rattle.std.proofs.lemmas.List.{take_all}
 use Rattle.std.proofs.lemmas.Bool.{both_ways, not-true, not_from_false}
 use Rattle.stations.specs.declared.station.Station as stated
@@ -59,7 +59,7 @@ refused_as false g f h = some-none (sym h)
 
 module _ (q : Query) (laws : Laws q) (b : Book) (lawful : Lawful b) where
   -- a lawful book that keeps what is live of the pages opened as far as v agrees as far as u
-  agree : (u v : Bound) (w : Book) → All (λ p. IsLive (slot b p)) (opened q b u) → ((p : ℕ) → p ∈ opened q b u → p ∈ opened q b v) → Keeps b (opened q b v) w → Agree (opened q b u) b w
+  agree : (u v : Bound) (w : Book) → Each (λ p. IsLive (slot b p)) (opened q b u) → ((p : ℕ) → p ∈ opened q b u → p ∈ opened q b v) → Keeps b (opened q b v) w → Agree (opened q b u) b w
   agree u v w live f k = all_from _ (opened q b u) (λ p m. sym (all-at (λ p. IsLive (slot b p) → slot w p ≡ slot b p) k.same (f p m) (all-at (λ p. IsLive (slot b p)) live m)))
 
   begins-listed : (u : Bound) (w : Book) → Lawful w → Agree (opened q b u) b w → Begins (listed q b u) (answer q w)
@@ -122,7 +122,7 @@ module _ (q : Query) (laws : Laws q) (b : Book) (lawful : Lawful b) where
     handed-all : end ≡ done → handed q b limits ≡ answer q b
     handed-all d = ap (λ e. listed q b (listed_bound e)) d ∙ listed-all b
 
-    done-live : end ≡ done → All (λ p. IsLive (slot b p)) (opened q b all)
+    done-live : end ≡ done → Each (λ p. IsLive (slot b p)) (opened q b all)
     done-live d = live-opened q laws b lawful limits all (top-opens d) (λ k _. subst (λ e. within (listed_bound e) k ≡ true) (sym d) refl)
 
     pub done_call : (n : ℕ) → next q b limits n ≡ Ok None → (end ≡ done) × (length (handed q b limits) ≤ n) × (bound_at q (handed q b limits) end n ≡ opened_bound end)
@@ -177,7 +177,7 @@ module _ (q : Query) (laws : Laws q) (b : Book) (lawful : Lawful b) where
           go (Some f) e = inr (dead_end 0 (below top_key) f top_key (here refl) e (at_top q laws b lawful limits f e))
           go None e = ⊎_elim (λ h. inl (past_top q laws b lawful limits e ∙ h)) (λ h. inr (row-end h e)) (first_cases q laws b lawful limits (row q b))
 
-      live-done : All (λ p. IsLive (slot b p)) (opened q b all) → end ≡ done
+      live-done : Each (λ p. IsLive (slot b p)) (opened q b all) → end ≡ done
       live-done live = ⊎_elim (λ d. d) (λ d. absurd (subst IsLive d.3 (all-at (λ p. IsLive (slot b p)) live d.4))) done_or_dead
 
       names_dead : (end ≡ done → ⊥) → (p : ℕ) × (κ : Key) × (end ≡ halted (fault DeadPage p 0) κ) × (slot b p ≡ dead)
