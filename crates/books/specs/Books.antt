@@ -1,6 +1,6 @@
 -- A book is a list of slots, and a page's number is its place there.
 use Rattle.std.specs.Prelude.{◌≡◌, ℕ, suc, ◌<◌, ◌≤◌, Bool, true, false, List, [], map, length, ◌==◌, ◌≢◌, slice_index_or}
-use Rattle.std.specs.List.{flat_map, AllByRecursion as All}
+use Rattle.std.specs.List.{flat_map, AllByRecursion as Each}
 use Rattle.stations.specs.declared.measures.Measures.{Measures}
 use Rattle.stations.specs.declared.station.Station.{Station}
 use Rattle.stations.specs.declared.region.Region.{Region}
@@ -88,8 +88,8 @@ pub record Nested (inner outer : Region) : Type 0 where
 -- what a page named on a page of level l with this box must be: one level lower, and inside the box. A dead page is nothing else
 abbrev pub Fits : ℕ → Region → Slot → Type 0
 Fits l box dead = Unit {0}
-Fits l box (leaf ss) = (l ≡ 1) × All (λ s. Inside s.at box) ss
-Fits l box (node m cs) = (l ≡ suc (suc m)) × All (λ c. Nested c.bounds box) cs
+Fits l box (leaf ss) = (l ≡ 1) × Each (λ s. Inside s.at box) ss
+Fits l box (node m cs) = (l ≡ suc (suc m)) × Each (λ c. Nested c.bounds box) cs
 
 -- only the top may be without entries, and only as a leaf
 abbrev pub Filled : ℕ → Slot → Type 0
@@ -114,25 +114,25 @@ pub record Lawful (b : Book) : Type 0 where
   -- only a top page of level 0 may have none
   pub filled : (p : ℕ) → Filled p (slot b p)
   -- a named page has a greater number than its namer, and lies in the book
-  pub after : (p : ℕ) → All (λ c. (p < c.page) × (c.page < length b)) (children_on (slot b p))
+  pub after : (p : ℕ) → Each (λ c. (p < c.page) × (c.page < length b)) (children_on (slot b p))
   -- where it is live, it is one level lower and inside the box that it is named with
-  pub fits : (p : ℕ) → All (λ c. Fits (level (slot b p)) c.bounds (slot b c.page)) (children_on (slot b p))
+  pub fits : (p : ℕ) → Each (λ c. Fits (level (slot b p)) c.bounds (slot b c.page)) (children_on (slot b p))
   -- every live page but the top is named by a live page
   pub reached : (p : ℕ) → IsLive (slot b p) → (p ≢ 0) → 1 ≤ count (names p) (named b)
   -- no page is named twice
   pub named_once : (p : ℕ) → count (names p) (named b) ≤ 1
   -- no low of a box is above its high
-  pub ordered : All (λ c. c.bounds.low ≼ c.bounds.high) (named b)
+  pub ordered : Each (λ c. c.bounds.low ≼ c.bounds.high) (named b)
   -- no high of a box is above 65,535, and so no low
-  pub boxes : All (λ c. Ordinary c.bounds.high) (named b)
+  pub boxes : Each (λ c. Ordinary c.bounds.high) (named b)
   -- no measure of a station is above 65,535
-  pub measures : All (λ s. Ordinary s.at) (stations b)
+  pub measures : Each (λ s. Ordinary s.at) (stations b)
   -- station numbers are from 1
-  pub numbers : All (λ s. 1 ≤ s.number) (stations b)
+  pub numbers : Each (λ s. 1 ≤ s.number) (stations b)
   -- no two stations have one number
   pub numbered_once : (n : ℕ) → count (numbered n) (stations b) ≤ 1
 
 -- the top is live, and so is every named page
 pub record Whole (b : Book) : Type 0 where
   pub top : IsLive (slot b 0)
-  pub rest : All (λ c. IsLive (slot b c.page)) (named b)
+  pub rest : Each (λ c. IsLive (slot b c.page)) (named b)

@@ -3,7 +3,7 @@ use Rattle.std.proofs.Common.{◌≡◌, ℕ, zero, suc, ◌+◌, ◌*◌, ◌/�
 use Rattle.std.proofs.lemmas.Nat.{shr-shr, div-mul-add, mod-mul-add}
 use Rattle.stations.specs.declared.measures.Measures.{Measures}
 use Rattle.stations.specs.Beating.{Ordinary}
-use Rattle.codes.specs.Codes.{spread, bit_at, code_of, Interleaved, Alone}
+use Rattle.codes.specs.Codes.{spread, code_of, Interleaved, Alone}
 use Rattle.codes.proofs.Spreads.{half_pow, spread-small}
 
 -- the code of four numbers of n bits

@@ -1,5 +1,5 @@
 -- The code of four measures: their bits in turn, from the highest of the first measure to the lowest of the fourth.
-use Rattle.std.specs.Prelude.{◌≡◌, ℕ, zero, suc, ◌+◌, ◌*◌, ◌/◌, ◌%◌, ◌^◌, ◌<◌}
+use Rattle.std.specs.Prelude.{◌≡◌, ℕ, zero, suc, ◌+◌, ◌-◌, ◌*◌, ◌/◌, ◌%◌, ◌^◌, ◌<◌}
 use Rattle.stations.specs.declared.measures.Measures.{Measures}
 use Rattle.stations.specs.Beating.{Ordinary}
 
@@ -27,3 +27,14 @@ pub record Interleaved (p : Measures) (code : ℕ) : Type 0 where
 -- no other ordinary measures have the code
 abbrev pub Alone : Measures → ℕ → Type 0
 Alone p code = (q : Measures) → Ordinary q → code_of q ≡ code → q ≡ p
+
+abbrev measures : ℕ → ℕ → ℕ → ℕ → Measures
+measures a b c d = record { m1 = a; m2 = b; m3 = c; m4 = d }
+
+-- codes and an entry of the table, worked out
+pub record Worked : Type 0 where
+  pub one : code_of (measures 1 0 0 0) ≡ 8
+  pub two : code_of (measures 2 0 0 0) ≡ 128
+  pub last : code_of (measures 0 0 0 1) ≡ 1
+  pub all : code_of (measures 65535 65535 65535 65535) ≡ 2 ^ 64 - 1
+  pub byte : spread 8 255 ≡ 286331153

@@ -1,7 +1,7 @@
 #![tactic(auto)]
 // The 64-bit code of four measures, by a table that spreads a byte.
-ghost use Rattle.std.specs.Prelude.{◌≡◌, ◌*◌, ◌^◌, ◌<◌};
-ghost use Rattle.codes.specs.Codes.{spread, code_of, Interleaved, Alone};
+ghost use Rattle.std.specs.Prelude.{◌≡◌, ◌-◌, ◌*◌, ◌^◌, ◌<◌};
+ghost use Rattle.codes.specs.Codes.{spread, code_of, Interleaved, Alone, Worked};
 
 use stations::Measures;
 
@@ -36,4 +36,17 @@ pub fn code(at: Measures) -> u64
         + (spread_measure(m2) << 2)
         + (spread_measure(m3) << 1)
         + spread_measure(m4)
+}
+
+// The code of the worst measures, every bit set.
+pub fn last_code() -> u64
+    ensures value { result ≡ 2 ^ 64 - 1 }
+    ensures worked { Worked }
+{
+    code(Measures {
+        m1: 65535,
+        m2: 65535,
+        m3: 65535,
+        m4: 65535,
+    })
 }

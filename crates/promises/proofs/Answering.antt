@@ -1,6 +1,6 @@
 -- Sorting puts in order and keeps what there is.
 use Rattle.std.proofs.Common.{◌≡◌, Bool, true, false, cond, ◌&&◌, ◌⊎◌, List, [], ◌∷◌, refl, ◌∙◌, ⊎_elim}
-use Rattle.std.specs.List.{AllByRecursion as All}
+use Rattle.std.specs.List.{AllByRecursion as Each}
 use Rattle.std.proofs.lemmas.Bool.{both_ways, cases_Bool}
 use Rattle.stations.specs.declared.key.Key.{Key}
 use Rattle.stations.specs.declared.station.Station.{Station}
@@ -19,16 +19,16 @@ module _ {A : Type 0} (lt : A → A → Bool) (one_way : (x y : A) → lt x y �
   abbrev Late : A → A → Type 0
   Late x y = lt y x ≡ false
 
-  all_insert : (P : A → Type 0) (x : A) (ys : List A) → P x → All P ys → All P (insert lt x ys)
+  all_insert : (P : A → Type 0) (x : A) (ys : List A) → P x → Each P ys → Each P (insert lt x ys)
   all_insert P x [] h k = (h, tt)
   all_insert P x (y ∷ ys) h k = go (lt y x) (all_insert P x ys h k.1)
     where
-      go : (t : Bool) → All P (insert lt x ys) → All P (cond t (y ∷ insert lt x ys) (x ∷ y ∷ ys))
+      go : (t : Bool) → Each P (insert lt x ys) → Each P (cond t (y ∷ insert lt x ys) (x ∷ y ∷ ys))
       go true m = (k.0, m)
       go false m = (h, k)
 
   -- what is late for one that is late is late
-  late_all : (x y : A) (zs : List A) → Late x y → All (Late y) zs → All (Late x) zs
+  late_all : (x y : A) (zs : List A) → Late x y → Each (Late y) zs → Each (Late x) zs
   late_all x y [] h k = tt
   late_all x y (z ∷ zs) h k = (⊎_elim (λ e. ⊎_elim (λ l. absurd (both_ways (lt z y) k.0 l)) (λ l. absurd (both_ways (lt y x) h l)) (between z y x e)) (λ e. e) (cases_Bool (lt z x)), late_all x y zs h k.1)
 

@@ -3,8 +3,11 @@ use Rattle.std.proofs.Common.{◌≡◌, ℕ, ◌+◌, ◌<◌, ◌≤◌, true,
 use Rattle.std.proofs.lemmas.Bool.Decides.{nat_tests}
 use Rattle.std.proofs.lemmas.Bool.{and_parts, and_from, lt-ltb, leb-true, le-leb}
 use Rattle.stations.specs.declared.measures.Measures.{Measures}
+use Rattle.stations.specs.declared.question.Question.{Question}
+use Rattle.stations.specs.declared.region.Region.{Region}
 use Rattle.stations.specs.Beating.{◌≼◌, at_most, smaller, beats, sum}
-use Rattle.promises.specs.Bands.{join, BandsKeepLaws, BandsAnswer}
+use Rattle.books.specs.Books.{Inside}
+use Rattle.promises.specs.Bands.{join, bands, BandsKeepLaws, BandsAnswer}
 use Rattle.promises.proofs.Keys.{lex_lt, lex_le}
 
 le_at_most : (a b : Measures) → a ≼ b → at_most a b ≡ true
@@ -39,6 +42,16 @@ both x low high h = (at_most_le low x (and_parts _ _ h).0, at_most_le x high (an
 under : (x a b : Measures) → (at_most x a && at_most x b) ≡ true → (x ≼ a) × (x ≼ b)
 under x a b h = (at_most_le x a (and_parts _ _ h).0, at_most_le x b (and_parts _ _ h).1)
 
+pub bands-answer : BandsAnswer
+bands-answer rank question b = refl
+
+-- the corner lies in its box and in play
+corner-inside : (rank : Measures → ℕ) (question : Question) (b : Region) → (bands rank question).cornered b ≡ true → Inside ((bands rank question).corner b) b × ((bands rank question).in_play ((bands rank question).corner b) ≡ true)
+corner-inside rank question b h =
+    let c = join b.low question.region.low in
+    let p = under c b.high question.region.high h in
+    (omega arith, and_from _ _ (le_at_most question.region.low c (omega arith)) (le_at_most c question.region.high p.1))
+
 pub bands-keep-laws : BandsKeepLaws
 bands-keep-laws rank question mono = record {
   over_down = λ s a b h l. let p = beats-parts s a h in beats-from s b (omega arith) (omega arith);
@@ -49,10 +62,7 @@ bands-keep-laws rank question mono = record {
       let c = join b.low question.region.low in
       let l : c ≼ x = omega arith in
       (and_from _ _ (le_at_most c b.high (omega arith)) (le_at_most c question.region.high (omega arith)), l);
-  corner_inside = λ b h.
-      let c = join b.low question.region.low in
-      let p = under c b.high question.region.high h in
-      (omega arith, and_from _ _ (le_at_most question.region.low c (omega arith)) (le_at_most c question.region.high p.1));
+  corner_inside = corner-inside rank question;
   corner_nested = λ i o h t.
       let c = join i.low question.region.low in
       let d = join o.low question.region.low in
@@ -62,6 +72,3 @@ bands-keep-laws rank question mono = record {
   page_first = λ a b h p n. lex_le (rank a) (rank b) _ (mono a b h) (lex_le (sum a) (sum b) _ (omega arith) refl);
   page_down = λ a b h m n l. lex_le (rank a) (rank b) _ (mono a b h) (lex_le (sum a) (sum b) _ (omega arith) (lex_le 0 0 _ (omega arith) (lt-ltb m n l)));
 }
-
-pub bands-answer : BandsAnswer
-bands-answer rank question b = refl

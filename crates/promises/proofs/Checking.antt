@@ -1,6 +1,6 @@
 -- The test of a book is sound.
 use Rattle.std.proofs.Common.{◌≡◌, ℕ, zero, suc, ◌+◌, ◌<◌, ◌≤◌, Bool, true, ◌||◌, eqb, leb, List, [], ◌∷◌, length, sym, refl, subst, ⊎_elim, add-zero, zero-add, arith}
-use Rattle.std.specs.List.{AllByRecursion as All}
+use Rattle.std.specs.List.{AllByRecursion as Each}
 use Rattle.std.proofs.lemmas.Bool.{ltb-true, leb-true, eqb-true, and_parts, or_cases, cases_lt}
 use Rattle.stations.specs.declared.measures.Measures.{Measures}
 use Rattle.stations.specs.declared.region.Region.{Region}
@@ -14,7 +14,7 @@ use Rattle.promises.proofs.Bands.{at_most_le}
 ordinary : (p : Measures) → at_most p worst ≡ true → Ordinary p
 ordinary p h = let l = at_most_le p worst h in omega arith
 
-from-every : {A : Type 0} (t : A → Bool) (P : A → Type 0) → ((x : A) → t x ≡ true → P x) → (xs : List A) → every t xs ≡ true → All P xs
+from-every : {A : Type 0} (t : A → Bool) (P : A → Type 0) → ((x : A) → t x ≡ true → P x) → (xs : List A) → every t xs ≡ true → Each P xs
 from-every t P h [] e = tt
 from-every t P h (x ∷ xs) e = let r = and_parts (t x) (every t xs) e in (h x r.0, from-every t P h xs r.1)
 
@@ -58,8 +58,8 @@ record SlotOk (b : Book) (p : ℕ) (s : Slot) : Type 0 where
   levels : level s ≤ 7
   sizes : size s ≤ 12
   filled : Filled p s
-  after : All (λ c. (p < c.page) × (c.page < length b)) (children_on s)
-  fits : All (λ c. Fits (level s) c.bounds (slot b c.page)) (children_on s)
+  after : Each (λ c. (p < c.page) × (c.page < length b)) (children_on s)
+  fits : Each (λ c. Fits (level s) c.bounds (slot b c.page)) (children_on s)
   reached : IsLive s → (p ≡ 0 → ⊥) → 1 ≤ count (names p) (named b)
 
 slot-sound : (b : Book) (p : ℕ) (s : Slot) → slot_rules b p s ≡ true → SlotOk b p s

@@ -1,13 +1,13 @@
 -- Every lawful book with a live top can be made whole: below each dead named page a station is put, at measures of choice.
 use Rattle.std.proofs.Common.{◌≡◌, ℕ, zero, suc, ◌+◌, ◌<◌, ◌≤◌, ◌⊎◌, List, [], ◌∷◌, ◌++◌, length, set, filter, sym, refl, ap, ◌∙◌, subst, inl, inr, ⊎_elim, arith}
-use Rattle.std.specs.List.{flat_map, AllByRecursion as All}
+use Rattle.std.specs.List.{flat_map, AllByRecursion as Each}
 use Rattle.std.proofs.lemmas.List.{length-set, get_or-set_same, get_or-set_other, length-append, get_or_past}
 use Rattle.std.proofs.lemmas.Bool.{cases_lt, eq-eqb, ne_eqb}
 use Rattle.stations.specs.declared.measures.Measures.{Measures}
 use Rattle.stations.specs.declared.station.Station.{Station}
 use Rattle.stations.specs.Counting.{bit, count}
 use Rattle.books.specs.Lists.{◌∈◌, here, there}
-use Rattle.books.specs.Books.{Book, Slot, dead, leaf, node, slot, stations_on, named, stations, numbered, IsLive, is_dead, Inside, Lawful}
+use Rattle.books.specs.Books.{Book, Slot, dead, leaf, node, slot, stations_on, stations, numbered, IsLive, is_dead, Inside, Lawful}
 use Rattle.promises.proofs.Lists.{in_kept, of-kept, count_kept_le, nothing_in, count_mem, count_none}
 use Rattle.promises.proofs.Books.{dead-true, dead_or_live, of_joined, in_joined}
 use Rattle.promises.proofs.Placing.{Home, home, homes_on, homes, houses, count-homes, home-ok, Open, of-written, slot-grown, joined_grown, leaf-lawful, last-child, node-lawful}
@@ -201,7 +201,7 @@ and_one b h s v new w o f g = record {
     puts x (here e) = stays stations_on refl v w g.keeps (subst (λ y. y ∈ stations v) (sym e) f.put)
     puts x (there m) = g.put x m
 
-fill-all : (pick : Home → Measures) (os : List Home) (b : Book) (n : ℕ) → Lawful b → Left b os → All (λ h. Inside (pick h) h.child.bounds) os → 1 ≤ n → Fresh n b → (w : Book) × Completes b (fills pick n os) w
+fill-all : (pick : Home → Measures) (os : List Home) (b : Book) (n : ℕ) → Lawful b → Left b os → Each (λ h. Inside (pick h) h.child.bounds) os → 1 ≤ n → Fresh n b → (w : Book) × Completes b (fills pick n os) w
 fill-all pick [] b n lawful r at one fresh = (
   b,
   record {
@@ -233,5 +233,5 @@ all_left b lawful = record {
   covers = λ h m. ⊎_elim (λ e. inr (in_gaps b h m e)) (λ l. inl l) (dead_or_live (slot b h.child.page));
 }
 
-pub completion : (b : Book) (pick : Home → Measures) (base : ℕ) → Lawful b → All (λ h. Inside (pick h) h.child.bounds) (gaps b) → 1 ≤ base → Fresh base b → (w : Book) × Completes b (fills pick base (gaps b)) w
+pub completion : (b : Book) (pick : Home → Measures) (base : ℕ) → Lawful b → Each (λ h. Inside (pick h) h.child.bounds) (gaps b) → 1 ≤ base → Fresh base b → (w : Book) × Completes b (fills pick base (gaps b)) w
 completion b pick base lawful at one fresh = fill-all pick (gaps b) b base lawful (all_left b lawful) at one fresh

@@ -1,6 +1,6 @@
 -- A book cut down to some of its pages is lawful where those hang together.
 use Rattle.std.proofs.Common.{◌≡◌, ℕ, zero, suc, ◌<◌, ◌≤◌, Bool, true, false, cond, ◌||◌, eqb, ◌⊎◌, List, [], ◌∷◌, length, sym, refl, ap, ◌∙◌, subst, inl, inr, ⊎_elim, arith}
-use Rattle.std.specs.List.{flat_map, AllByRecursion as All}
+use Rattle.std.specs.List.{flat_map, AllByRecursion as Each}
 use Rattle.std.proofs.ByRecursion.{All-weaker}
 use Rattle.std.proofs.lemmas.Bool.{eq-eqb, eqb-true, both_ways, or_cases, or_left, or_right, cases_Bool}
 use Rattle.stations.specs.Counting.{count}
@@ -66,7 +66,7 @@ of-keep f none t b {x} m =
     let k = kept (λ s. x ∈ f s → (t r.0 ≡ true) × (x ∈ f (slot b r.0))) t b r.0 (λ n. nothing_in (subst (λ l. x ∈ l) none n)) (λ e n. (e, n)) r.1 in
     (r.0, k.0, k.1)
 
-all_keep : {A : Type 0} (f : Slot → List A) → f dead ≡ [] → (P : A → Type 0) (t : ℕ → Bool) (b : Book) → All P (flat_map f b) → All P (flat_map f (keep t b))
+all_keep : {A : Type 0} (f : Slot → List A) → f dead ≡ [] → (P : A → Type 0) (t : ℕ → Bool) (b : Book) → Each P (flat_map f b) → Each P (flat_map f (keep t b))
 all_keep f none P t b h = all_from P _ (λ x m. let r = of-keep f none t b m in all-at P h (in_joined f none b r.0 r.2))
 
 module _ (b : Book) (lawful : Lawful b) (ps : List ℕ) (rooted : Rooted b ps) where
@@ -84,8 +84,8 @@ module _ (b : Book) (lawful : Lawful b) (ps : List ℕ) (rooted : Rooted b ps) w
     levels = λ p. kept (λ s. level s ≤ 7) (has ps) b p (omega arith) (λ _. lawful.levels p);
     sizes = λ p. kept (λ s. size s ≤ 12) (has ps) b p (omega arith) (λ _. lawful.sizes p);
     filled = λ p. kept (Filled p) (has ps) b p tt (λ _. lawful.filled p);
-    after = λ p. subst (λ n. All (λ c. (p < c.page) × (c.page < n)) (children_on (slot (cut ps b) p))) (sym (length-keep (has ps) b)) (kept (λ s. All (λ c. (p < c.page) × (c.page < length b)) (children_on s)) (has ps) b p tt (λ _. lawful.after p));
-    fits = λ p. kept (λ s. All (λ c. Fits (level s) c.bounds (slot (cut ps b) c.page)) (children_on s)) (has ps) b p tt (λ _. All-weaker _ (λ c. Fits (level (slot b p)) c.bounds (slot (cut ps b) c.page)) (λ c f. kept (Fits (level (slot b p)) c.bounds) (has ps) b c.page tt (λ _. f)) _ (lawful.fits p));
+    after = λ p. subst (λ n. Each (λ c. (p < c.page) × (c.page < n)) (children_on (slot (cut ps b) p))) (sym (length-keep (has ps) b)) (kept (λ s. Each (λ c. (p < c.page) × (c.page < length b)) (children_on s)) (has ps) b p tt (λ _. lawful.after p));
+    fits = λ p. kept (λ s. Each (λ c. Fits (level s) c.bounds (slot (cut ps b) c.page)) (children_on s)) (has ps) b p tt (λ _. All-weaker _ (λ c. Fits (level (slot b p)) c.bounds (slot (cut ps b) c.page)) (λ c f. kept (Fits (level (slot b p)) c.bounds) (has ps) b c.page tt (λ _. f)) _ (lawful.fits p));
     reached = λ p live ne. reach p ne (kept (λ s. IsLive s → p ∈ ps) (has ps) b p (λ l. absurd l) (λ e _. has_in ps p e) live);
     named_once = λ p. omega (arith, lawful.named_once p, count-keep children_on refl (names p) (has ps) b);
     ordered = all_keep children_on refl _ (has ps) b lawful.ordered;

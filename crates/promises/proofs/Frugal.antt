@@ -1,6 +1,6 @@
 -- Every settling set holds every page that is called for.
 use Rattle.std.proofs.Common.{◌≡◌, ℕ, zero, suc, ◌<◌, ◌≤◌, Bool, true, ◌⊎◌, List, length, filter, refl, subst, inl, inr, ⊎_elim, arith}
-use Rattle.std.specs.List.{AllByRecursion as All}
+use Rattle.std.specs.List.{AllByRecursion as Each}
 use Rattle.std.proofs.ByRecursion.{All-map}
 use Rattle.std.proofs.lemmas.Bool.{ltb-true, lt-ltb, and_parts, and_from}
 use Rattle.stations.specs.declared.station.Station as stated
@@ -79,7 +79,7 @@ module _ (q : Query) (laws : Laws q) (b : Book) (lawful : Lawful b) (ps : List �
           let less = count_less (earlier h) (earlier g) (λ x j. before_trans (page_key q x) (page_key q h) (page_key q g) j k) (on_edge d) (before_same (page_key q h)) k in
           omega arith
 
-  pub holds : All (λ p. p ∈ ps) (opened q b all)
+  pub holds : Each (λ p. p ∈ ps) (opened q b all)
   holds = opened_ind q laws b (shape b lawful) all (λ p. p ∈ ps) settles.rooted.top (λ p d i m t _.
       ⊎_elim (λ k. k) (λ ne. absurd (no_edge (suc (count (earlier d) (called_for q b))) d (omega arith) (p, i, m, t, ne))) (holds_or_not d.page ps))
 
@@ -99,7 +99,7 @@ opened-once q b lawful u = (
         omega (arith, (shape b lawful).child-after o.0 c o.1)
 
 -- and so they are no more than a settling set has
-pub holds-many : (q : Query) → Laws q → (b : Book) → Lawful b → (ps : List ℕ) → Settles q b ps → (u : Bound) → All (λ p. p ∈ ps) (opened q b u) × (length (opened q b u) ≤ length ps)
+pub holds-many : (q : Query) → Laws q → (b : Book) → Lawful b → (ps : List ℕ) → Settles q b ps → (u : Bound) → Each (λ p. p ∈ ps) (opened q b u) × (length (opened q b u) ≤ length ps)
 holds-many q laws b lawful ps s u = (all_from _ (opened q b u) inside, omega (arith, count_into (λ _. true) (opened q b u) ps (opened-once q b lawful u) (λ p m _. inside p m), count-all (opened q b u), count-all ps))
   where
     inside : (p : ℕ) → p ∈ opened q b u → p ∈ ps

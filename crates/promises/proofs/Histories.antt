@@ -17,7 +17,6 @@ use Rattle.promises.specs.Opening.{opened}
 use Rattle.promises.specs.Settling.{Keeps, Settles}
 use Rattle.promises.specs.Searching as search
 use Rattle.promises.specs.Searching.{Limits, Ending, opened_bound, last_reply, reply_at, ending, handed, next, handed_after, opened_after, Within}
-use Rattle.promises.specs.Promises.{Begins}
 use Rattle.promises.specs.Histories.{Event, started, nexted, stopped, Standing, nothing, asked, after_start, Takes, History, new, then, handing, handed_in, Phase, searching, done, halted, phase_by, phase, Promised, EveryHistory}
 use Rattle.promises.proofs.Bands.{bands-keep-laws}
 use Rattle.promises.proofs.Rows.{call_cases}

@@ -12,6 +12,7 @@ pub mod Rows
 pub mod Halting
 pub mod Promises
 pub mod Stepping
+pub mod Cases
 pub mod Histories
 pub mod Checking
 pub mod Places

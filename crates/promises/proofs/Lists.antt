@@ -1,6 +1,6 @@
 -- Membership, filters, counts and sorted lists.
 use Rattle.std.proofs.Common.{◌≡◌, ◌+◌, ◌<◌, ◌≤◌, Bool, true, false, cond, ◌⊎◌, List, [], ◌∷◌, ◌++◌, map, length, filter, sym, refl, ap, ◌∙◌, subst, ap₂, inl, inr, ⊎_elim, arith}
-use Rattle.std.specs.List.{AllByRecursion as All}
+use Rattle.std.specs.List.{AllByRecursion as Each}
 use Rattle.std.proofs.lemmas.Bool.{cases_Bool, both_ways}
 use Rattle.std.proofs.ByRecursion.{all_kept_by, All-weaker, All-map, All-append}
 use Rattle.stations.specs.Counting.{bit, count, insert, sort}
@@ -12,11 +12,11 @@ bit_le false t f = omega arith
 
 module _ {A : Type 0} where
   -- membership
-  pub all-at : (P : A → Type 0) {x : A} {xs : List A} → All P xs → x ∈ xs → P x
+  pub all-at : (P : A → Type 0) {x : A} {xs : List A} → Each P xs → x ∈ xs → P x
   all-at P h (here e) = subst P (sym e) h.0
   all-at P h (there m) = all-at P h.1 m
 
-  pub all_from : (P : A → Type 0) (xs : List A) → ((x : A) → x ∈ xs → P x) → All P xs
+  pub all_from : (P : A → Type 0) (xs : List A) → ((x : A) → x ∈ xs → P x) → Each P xs
   all_from P [] f = tt
   all_from P (x ∷ xs) f = (f x (here refl), all_from P xs (λ y m. f y (there m)))
 
@@ -113,12 +113,12 @@ module _ {A : Type 0} where
     abbrev pub Apart : List A → Type 0
     Apart = Pairwise (λ x y. (lt x y ≡ true) ⊎ (lt y x ≡ true))
 
-    all_insert : (P : A → Type 0) (x : A) (ys : List A) → P x → All P ys → All P (insert lt x ys)
+    all_insert : (P : A → Type 0) (x : A) (ys : List A) → P x → Each P ys → Each P (insert lt x ys)
     all_insert P x [] h k = (h, tt)
     all_insert P x (y ∷ ys) h k =
-        elim (lt y x) as (λ t. All P (cond t (y ∷ insert lt x ys) (x ∷ y ∷ ys))) [ true ↦ (k.0, all_insert P x ys h k.1) | false ↦ (h, k) ]
+        elim (lt y x) as (λ t. Each P (cond t (y ∷ insert lt x ys) (x ∷ y ∷ ys))) [ true ↦ (k.0, all_insert P x ys h k.1) | false ↦ (h, k) ]
 
-    pub all-sort : (P : A → Type 0) (xs : List A) → All P xs → All P (sort lt xs)
+    pub all-sort : (P : A → Type 0) (xs : List A) → Each P xs → Each P (sort lt xs)
     all-sort P [] h = tt
     all-sort P (x ∷ xs) h = all_insert P x (sort lt xs) h.0 (all-sort P xs h.1)
 
@@ -149,7 +149,7 @@ module _ {A : Type 0} where
     count-sort p (x ∷ xs) = count-insert p x (sort lt xs) ∙ ap (λ n. bit (p x) + n) (count-sort p xs)
 
     module _ (trans : (x y z : A) → lt x y ≡ true → lt y z ≡ true → lt x z ≡ true) where
-      rising-insert : (x : A) (ys : List A) → All (λ y. (lt x y ≡ true) ⊎ (lt y x ≡ true)) ys → Rising ys → Rising (insert lt x ys)
+      rising-insert : (x : A) (ys : List A) → Each (λ y. (lt x y ≡ true) ⊎ (lt y x ≡ true)) ys → Rising ys → Rising (insert lt x ys)
       rising-insert x [] a r = (tt, tt)
       rising-insert x (y ∷ ys) a r = go (lt y x) refl (rising-insert x ys a.1 r.1) a.0
         where
@@ -176,7 +176,7 @@ module _ {A : Type 0} where
           first (there m) (here d) = sym d
           first (there m) (there n) = absurd (both_ways (lt x x) (irr x) (trans x y x (all-at (λ z. lt x z ≡ true) r.0 n) (all-at (λ z. lt y z ≡ true) s.0 m)))
 
-          rest : (x y : A) (xs ys : List A) → x ≡ y → All (λ z. lt x z ≡ true) xs → {z : A} → z ∈ xs → z ∈ (y ∷ ys) → z ∈ ys
+          rest : (x y : A) (xs ys : List A) → x ≡ y → Each (λ z. lt x z ≡ true) xs → {z : A} → z ∈ xs → z ∈ (y ∷ ys) → z ∈ ys
           rest x y xs ys e a {z} m (here d) = absurd (both_ways (lt x x) (irr x) (rw (d ∙ sym e) at (all-at (λ z. lt x z ≡ true) a m)))
           rest x y xs ys e a m (there n) = n
 
@@ -231,11 +231,11 @@ module _ {A : Type 0} where
   pairwise_append R [] ys h k f = k
   pairwise_append R (x ∷ xs) ys h k f = (All-append (R x) xs ys h.0 (all_from (R x) ys (λ y m. f x (here refl) y m)), pairwise_append R xs ys h.1 k (λ z m. f z (there m)))
 
-  pub kept-none : (t : A → Bool) (xs : List A) → All (λ x. t x ≡ false) xs → filter t xs ≡ []
+  pub kept-none : (t : A → Bool) (xs : List A) → Each (λ x. t x ≡ false) xs → filter t xs ≡ []
   kept-none t [] h = refl
   kept-none t (x ∷ xs) h = ap (λ v. cond v (x ∷ filter t xs) (filter t xs)) h.0 ∙ kept-none t xs h.1
 
-  pub kept-all : (t : A → Bool) (xs : List A) → All (λ x. t x ≡ true) xs → filter t xs ≡ xs
+  pub kept-all : (t : A → Bool) (xs : List A) → Each (λ x. t x ≡ true) xs → filter t xs ≡ xs
   kept-all t [] h = refl
   kept-all t (x ∷ xs) h = ap (λ v. cond v (x ∷ filter t xs) (filter t xs)) h.0 ∙ ap (λ ys. x ∷ ys) (kept-all t xs h.1)
 

@@ -16,7 +16,7 @@ use Rattle.promises.specs.Waiting.{key_of, counts, passes, Place, places, some, 
 use Rattle.promises.proofs.Lists.{all-at, of-kept, pairwise_kept, length-kept}
 use Rattle.promises.proofs.Keys.{before_same}
 use Rattle.promises.proofs.Books.{shape, fits-station, fits-child}
-use Rattle.promises.proofs.Places.{count_same, some-from, of-children, of-stations, at, count_at, count-one-less, Differ}
+use Rattle.promises.proofs.Places.{count_same, some-from, of-children, of-stations, count_at, count-one-less, Differ}
 use Rattle.promises.proofs.Turns.{same_bool, false-from, W, apart, standing-at, one-child, saw, passed-parts, passes_in, passed-same, on, outside, pages_up, is_child, listed_below, waits_up, out_of_up}
 
 count-split : {A : Type 0} (a e t : A → Bool) (xs : List A) → count (λ y. a y && t y) xs ≡ count (λ y. (a y && not (e y)) && t y) xs + count (λ y. e y && (a y && t y)) xs

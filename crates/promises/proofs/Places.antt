@@ -1,6 +1,6 @@
 -- Where entries stand, that their keys differ, and counts over a filter that changes at one place.
 use Rattle.std.proofs.Common.{◌≡◌, ℕ, zero, suc, ◌+◌, ◌<◌, ◌≤◌, Bool, true, false, cond, ◌&&◌, eqb, ◌⊎◌, List, [], ◌∷◌, ◌++◌, map, filter, sym, refl, ap, ◌∙◌, subst, inl, inr, ⊎_elim, arith}
-use Rattle.std.specs.List.{flat_map, AllByRecursion as All}
+use Rattle.std.specs.List.{flat_map, AllByRecursion as Each}
 use Rattle.std.proofs.lemmas.Bool.{both_ways, and_parts, and_from, eqb-true, eq-eqb, ne_eqb, lt-ltb, ltb-true}
 use Rattle.stations.specs.declared.measures.Measures.{Measures}
 use Rattle.stations.specs.declared.station.Station as stated
@@ -18,7 +18,7 @@ use Rattle.promises.proofs.Lists.{all-at, all_from, in_map, of_map, pairwise_wea
 use Rattle.promises.proofs.Books.{in_left, in_right, of_append, in_joined}
 
 module _ {A : Type 0} where
-  pub pairwise_parts : (R : A → A → Type 0) (xs ys : List A) → Pairwise R (xs ++ ys) → Pairwise R xs × Pairwise R ys × All (λ x. All (R x) ys) xs
+  pub pairwise_parts : (R : A → A → Type 0) (xs ys : List A) → Pairwise R (xs ++ ys) → Pairwise R xs × Pairwise R ys × Each (λ x. Each (R x) ys) xs
   pairwise_parts R [] ys h = (tt, h, tt)
   pairwise_parts R (x ∷ xs) ys h =
       let r = pairwise_parts R xs ys h.1 in
@@ -142,9 +142,9 @@ module _ (q : Query) where
   on-slot n (leaf ss) h k = pairwise_mapped Differ (at n) (map Station ss) (pairwise_mapped _ Station ss (pairwise_weaker Numbers _ (λ s t f e. f (ap (λ j. j.number) e)) ss h))
   on-slot n (node l cs) h k = pairwise_mapped Differ (at n) (map Page cs) (pairwise_mapped _ Page cs (pairwise_weaker Pages _ (λ s t f e. f (ap (λ j. j.number) e)) cs k))
 
-  across : (s : Slot) (b : Book) (p : ℕ) → All (λ x. All (Numbers x) (flat_map stations_on b)) (stations_on s) → All (λ x. All (Pages x) (flat_map children_on b)) (children_on s) → (e f : Entry) → e ∈ entries_on s → f ∈ entries_on (slot b p) → key_of q e ≡ key_of q f → ⊥
-  across s b p h k (Station x) (Station y) m n e = all-at (Numbers x) (all-at (λ x. All (Numbers x) (flat_map stations_on b)) h (of-stations s m)) (in_joined stations_on refl b p (of-stations (slot b p) n)) (ap (λ j. j.number) e)
-  across s b p h k (Page x) (Page y) m n e = all-at (Pages x) (all-at (λ x. All (Pages x) (flat_map children_on b)) k (of-children s m)) (in_joined children_on refl b p (of-children (slot b p) n)) (ap (λ j. j.number) e)
+  across : (s : Slot) (b : Book) (p : ℕ) → Each (λ x. Each (Numbers x) (flat_map stations_on b)) (stations_on s) → Each (λ x. Each (Pages x) (flat_map children_on b)) (children_on s) → (e f : Entry) → e ∈ entries_on s → f ∈ entries_on (slot b p) → key_of q e ≡ key_of q f → ⊥
+  across s b p h k (Station x) (Station y) m n e = all-at (Numbers x) (all-at (λ x. Each (Numbers x) (flat_map stations_on b)) h (of-stations s m)) (in_joined stations_on refl b p (of-stations (slot b p) n)) (ap (λ j. j.number) e)
+  across s b p h k (Page x) (Page y) m n e = all-at (Pages x) (all-at (λ x. Each (Pages x) (flat_map children_on b)) k (of-children s m)) (in_joined children_on refl b p (of-children (slot b p) n)) (ap (λ j. j.number) e)
   across s b p h k (Station x) (Page y) m n e = let z : ◌≡◌ {A = ℕ} 1 0 = ap (λ j. kind_number j.kind) e in omega arith
   across s b p h k (Page x) (Station y) m n e = let z : ◌≡◌ {A = ℕ} 0 1 = ap (λ j. kind_number j.kind) e in omega arith
 

@@ -1,6 +1,6 @@
 -- A page put into a dead named slot keeps a book lawful.
 use Rattle.std.proofs.Common.{◌≡◌, ℕ, zero, suc, ◌+◌, ◌<◌, ◌≤◌, Bool, true, false, eqb, ◌⊎◌, List, [], ◌∷◌, ◌++◌, map, length, set, sym, refl, ap, ◌∙◌, subst, inl, inr, ⊎_elim, arith}
-use Rattle.std.specs.List.{flat_map, AllByRecursion as All}
+use Rattle.std.specs.List.{flat_map, AllByRecursion as Each}
 use Rattle.std.proofs.lemmas.List.{length-set, get_or-set_same, get_or-set_other, length-append, get_or_at}
 use Rattle.std.proofs.ByRecursion.{All-weaker}
 use Rattle.std.proofs.lemmas.Bool.{cases_eq, eq-eqb, eqb-true, ne_eqb}
@@ -95,7 +95,7 @@ module _ {A : Type 0} (f : Slot → List A) (none : f dead ≡ []) where
       let r = of_joined f (set b h s) m in
       written (λ p t. x ∈ f t → (x ∈ f s) ⊎ (x ∈ flat_map f b)) b h s inside (λ k. inl k) (λ p n k. inr (in_joined f none b p k)) r.0 r.1
 
-  all-written : (P : A → Type 0) (b : Book) (h : ℕ) (s : Slot) → h < length b → All P (f s) → All P (flat_map f b) → All P (flat_map f (set b h s))
+  all-written : (P : A → Type 0) (b : Book) (h : ℕ) (s : Slot) → h < length b → Each P (f s) → Each P (flat_map f b) → Each P (flat_map f (set b h s))
   all-written P b h s inside new old = all_from P _ (λ x m. ⊎_elim (λ k. all-at P new k) (λ k. all-at P old k) (of-written b h s inside m))
 
   -- a write into a dead slot adds counts
@@ -113,12 +113,12 @@ pub record Goes (b : Book) (h : Home) (s : Slot) : Type 0 where
   pub level : level s ≤ 7
   pub size : size s ≤ 12
   pub filled : Filled h.child.page s
-  pub after : All (λ c. (h.child.page < c.page) × (c.page < length b)) (children_on s)
-  pub unread : All (λ c. (slot b c.page ≡ dead) × (c.page ≡ h.child.page → ⊥)) (children_on s)
-  pub ordered : All (λ c. c.bounds.low ≼ c.bounds.high) (children_on s)
-  pub boxes : All (λ c. Ordinary c.bounds.high) (children_on s)
-  pub measures : All (λ t. Ordinary t.at) (stations_on s)
-  pub numbers : All (λ t. 1 ≤ t.number) (stations_on s)
+  pub after : Each (λ c. (h.child.page < c.page) × (c.page < length b)) (children_on s)
+  pub unread : Each (λ c. (slot b c.page ≡ dead) × (c.page ≡ h.child.page → ⊥)) (children_on s)
+  pub ordered : Each (λ c. c.bounds.low ≼ c.bounds.high) (children_on s)
+  pub boxes : Each (λ c. Ordinary c.bounds.high) (children_on s)
+  pub measures : Each (λ t. Ordinary t.at) (stations_on s)
+  pub numbers : Each (λ t. 1 ≤ t.number) (stations_on s)
   pub names_fresh : (p : ℕ) → count (names p) (named b) + count (names p) (children_on s) ≤ 1
   pub numbers-fresh : (n : ℕ) → count (numbered n) (stations b) + count (numbered n) (stations_on s) ≤ 1
 
@@ -150,9 +150,9 @@ module _ (b : Book) (h : Home) (s : Slot) (lawful : Lawful b) (o : Open b h) (go
     levels = written (λ p t. level t ≤ 7) b h.child.page s inside go.level (λ p n. lawful.levels p);
     sizes = written (λ p t. size t ≤ 12) b h.child.page s inside go.size (λ p n. lawful.sizes p);
     filled = written Filled b h.child.page s inside go.filled (λ p n. lawful.filled p);
-    after = λ p. subst (λ n. All (λ c. (p < c.page) × (c.page < n)) (children_on (slot (set b h.child.page s) p))) (sym (length-set b h.child.page s))
-        (written (λ p t. All (λ c. (p < c.page) × (c.page < length b)) (children_on t)) b h.child.page s inside go.after (λ p n. lawful.after p) p);
-    fits = written (λ p t. All (λ c. Fits (level t) c.bounds (slot (set b h.child.page s) c.page)) (children_on t)) b h.child.page s inside
+    after = λ p. subst (λ n. Each (λ c. (p < c.page) × (c.page < n)) (children_on (slot (set b h.child.page s) p))) (sym (length-set b h.child.page s))
+        (written (λ p t. Each (λ c. (p < c.page) × (c.page < length b)) (children_on t)) b h.child.page s inside go.after (λ p n. lawful.after p) p);
+    fits = written (λ p t. Each (λ c. Fits (level t) c.bounds (slot (set b h.child.page s) c.page)) (children_on t)) b h.child.page s inside
         (all_from _ (children_on s) new-fits) (λ p n. all_from _ (children_on (slot b p)) (old-fits p));
     reached = written (λ p t. IsLive t → (p ≡ 0 → ⊥) → 1 ≤ count (names p) (named (set b h.child.page s))) b h.child.page s inside
         (λ l n. omega (arith, more h.child.page, count_mem (names h.child.page) (home-ok b lawful h o.named).named (eq-eqb _ _ refl)))
@@ -194,14 +194,14 @@ module _ (b : Book) (lawful : Lawful b) where
     levels = λ p. grown-slot (λ s. level s ≤ 7) p (lawful.levels p);
     sizes = λ p. grown-slot (λ s. size s ≤ 12) p (lawful.sizes p);
     filled = λ p. grown-slot (Filled p) p (lawful.filled p);
-    after = λ p. grown-slot (λ s. All (λ c. (p < c.page) × (c.page < length more-dead)) (children_on s)) p (All-weaker _ (λ c. (p < c.page) × (c.page < length more-dead)) (λ c h. (h.0, omega (arith, length-append b (dead ∷ [])))) _ (lawful.after p));
-    fits = λ p. grown-slot (λ s. All (λ c. Fits (level s) c.bounds (slot more-dead c.page)) (children_on s)) p (All-weaker _ (λ c. Fits (level (slot b p)) c.bounds (slot more-dead c.page)) (λ c f. grown-slot (Fits (level (slot b p)) c.bounds) c.page f) _ (lawful.fits p));
+    after = λ p. grown-slot (λ s. Each (λ c. (p < c.page) × (c.page < length more-dead)) (children_on s)) p (All-weaker _ (λ c. (p < c.page) × (c.page < length more-dead)) (λ c h. (h.0, omega (arith, length-append b (dead ∷ [])))) _ (lawful.after p));
+    fits = λ p. grown-slot (λ s. Each (λ c. Fits (level s) c.bounds (slot more-dead c.page)) (children_on s)) p (All-weaker _ (λ c. Fits (level (slot b p)) c.bounds (slot more-dead c.page)) (λ c f. grown-slot (Fits (level (slot b p)) c.bounds) c.page f) _ (lawful.fits p));
     reached = λ p l n. grown-children (λ x. 1 ≤ count (names p) x) (lawful.reached p (subst IsLive (slot-grown b p) l) n);
     named_once = λ p. grown-children (λ x. count (names p) x ≤ 1) (lawful.named_once p);
-    ordered = grown-children (All (λ c. c.bounds.low ≼ c.bounds.high)) lawful.ordered;
-    boxes = grown-children (All (λ c. Ordinary c.bounds.high)) lawful.boxes;
-    measures = grown-stations (All (λ s. Ordinary s.at)) lawful.measures;
-    numbers = grown-stations (All (λ s. 1 ≤ s.number)) lawful.numbers;
+    ordered = grown-children (Each (λ c. c.bounds.low ≼ c.bounds.high)) lawful.ordered;
+    boxes = grown-children (Each (λ c. Ordinary c.bounds.high)) lawful.boxes;
+    measures = grown-stations (Each (λ s. Ordinary s.at)) lawful.measures;
+    numbers = grown-stations (Each (λ s. 1 ≤ s.number)) lawful.numbers;
     numbered_once = λ n. grown-stations (λ x. count (numbered n) x ≤ 1) (lawful.numbered_once n);
   }
 

@@ -1,17 +1,15 @@
 -- The promises, from what is opened as far as a bound and from the row.
-use Rattle.std.proofs.Common.{◌≡◌, ℕ, zero, suc, ◌<◌, ◌≤◌, Bool, true, false, ltb, ◌⊎◌, [], ◌++◌, length, take, Some, None, Ok, Err, Option, Result, sym, refl, ap, ◌∙◌, subst, inl, inr, ⊎_elim, arith}
-use Rattle.std.specs.List.{AllByRecursion as All}
+use Rattle.std.proofs.Common.{◌≡◌, ℕ, zero, suc, ◌≤◌, Bool, true, false, ◌⊎◌, [], ◌++◌, length, take, Some, None, Ok, Err, Option, Result, sym, refl, ap, ◌∙◌, subst, inl, inr, ⊎_elim, arith}
+use Rattle.std.specs.List.{AllByRecursion as Each}
 use Rattle.std.proofs.lemmas.List.{take_all}
-use Rattle.std.proofs.lemmas.Bool.{both_ways, ltb-true, le-ltb, lt-leb, not-true, not_from_false}
+use Rattle.std.proofs.lemmas.Bool.{both_ways, not-true, not_from_false}
 use Rattle.stations.specs.declared.station.Station as stated
 use Rattle.stations.specs.declared.key.Key.{Key}
 use Rattle.stations.specs.declared.fault.Fault.{Fault}
-use Rattle.stations.specs.declared.fault.Code.TheVariants.{DeadPage, WaitingFull, ListFull}
-use Rattle.stations.specs.Faults.{fault, refuse_if, or_else}
+use Rattle.stations.specs.declared.fault.Code.TheVariants.{DeadPage}
+use Rattle.stations.specs.Faults.{fault, refuse_if}
 use Rattle.stations.specs.Keys.{before}
 use Rattle.books.specs.declared.Child.{Child}
-use Rattle.books.specs.declared.Entry.{Entry}
-use Rattle.books.specs.declared.Entry.TheVariants.{Station}
 use Rattle.books.specs.Lists.{Pairwise, ◌∈◌, here}
 use Rattle.books.specs.Books.{Book, dead, slot, named, children_on, IsLive, Lawful}
 use Rattle.promises.specs.Bounds.{Bound, all, below, up_to, within}
@@ -19,15 +17,15 @@ use Rattle.promises.specs.Queries.{Query, Laws, station_key, page_key, field, an
 use Rattle.promises.specs.Opening.{calls, called_for, opened, listed}
 use Rattle.promises.specs.Foundations.{Agree}
 use Rattle.promises.specs.Settling.{Keeps, NamedFrom, Settles}
-use Rattle.promises.specs.Waiting.{key_of, waiting}
+use Rattle.promises.specs.Waiting.{key_of}
 use Rattle.promises.specs.Searching.{Limits, top_key, Ending, done, halted, listed_bound, opened_bound, last_reply, bound_at, row, open_fault, halt_at, first_halt, ending, handed, next, handed_after, opened_after, Unhindered, Within}
 use Rattle.promises.specs.Promises.{Begins, Sound, SoundDone, Frugal, Decisive, Exact}
-use Rattle.promises.proofs.Lists.{all-at, all_from, of-kept, pairwise_kept, begins-kept, kept-none, kept-all, kept-kept, length-kept, count_less, count-all}
-use Rattle.promises.proofs.Keys.{before_same, within-before, within-up_to, kinds_either}
-use Rattle.promises.proofs.Books.{dead-true, false-live, of_joined, shape}
+use Rattle.promises.proofs.Lists.{all-at, all_from, of-kept, pairwise_kept, begins-kept, kept-none, kept-all, kept-kept}
+use Rattle.promises.proofs.Keys.{within-before, within-up_to, kinds_either}
+use Rattle.promises.proofs.Books.{dead-true, of_joined, shape}
 use Rattle.promises.proofs.Theory.{same_answers, in_opened, opened-all, opened-wider, l3}
 use Rattle.promises.proofs.Frugal.{holds, holds-many}
-use Rattle.promises.proofs.Rows.{not_after, top-first, some-none, same_some, one_fails, rising-answer, of_row, first_cases, HaltsAt, no_halt, past_top, at_top, live-opened, Hands, Ends, call_cases}
+use Rattle.promises.proofs.Rows.{not_after, top-first, some-none, same_some, one_fails, rising-answer, of_row, first_cases, HaltsAt, past_top, at_top, live-opened, Hands, Ends, call_cases}
 
 -- what lies before the end was opened by then
 listed-opened : (e : Ending) (k : Key) → within (listed_bound e) k ≡ true → within (opened_bound e) k ≡ true
@@ -61,7 +59,7 @@ refused_as false g f h = some-none (sym h)
 
 module _ (q : Query) (laws : Laws q) (b : Book) (lawful : Lawful b) where
   -- a lawful book that keeps what is live of the pages opened as far as v agrees as far as u
-  agree : (u v : Bound) (w : Book) → All (λ p. IsLive (slot b p)) (opened q b u) → ((p : ℕ) → p ∈ opened q b u → p ∈ opened q b v) → Keeps b (opened q b v) w → Agree (opened q b u) b w
+  agree : (u v : Bound) (w : Book) → Each (λ p. IsLive (slot b p)) (opened q b u) → ((p : ℕ) → p ∈ opened q b u → p ∈ opened q b v) → Keeps b (opened q b v) w → Agree (opened q b u) b w
   agree u v w live f k = all_from _ (opened q b u) (λ p m. sym (all-at (λ p. IsLive (slot b p) → slot w p ≡ slot b p) k.same (f p m) (all-at (λ p. IsLive (slot b p)) live m)))
 
   begins-listed : (u : Bound) (w : Book) → Lawful w → Agree (opened q b u) b w → Begins (listed q b u) (answer q w)
@@ -124,7 +122,7 @@ module _ (q : Query) (laws : Laws q) (b : Book) (lawful : Lawful b) where
     handed-all : end ≡ done → handed q b limits ≡ answer q b
     handed-all d = ap (λ e. listed q b (listed_bound e)) d ∙ listed-all b
 
-    done-live : end ≡ done → All (λ p. IsLive (slot b p)) (opened q b all)
+    done-live : end ≡ done → Each (λ p. IsLive (slot b p)) (opened q b all)
     done-live d = live-opened q laws b lawful limits all (top-opens d) (λ k _. subst (λ e. within (listed_bound e) k ≡ true) (sym d) refl)
 
     pub done_call : (n : ℕ) → next q b limits n ≡ Ok None → (end ≡ done) × (length (handed q b limits) ≤ n) × (bound_at q (handed q b limits) end n ≡ opened_bound end)
@@ -179,7 +177,7 @@ module _ (q : Query) (laws : Laws q) (b : Book) (lawful : Lawful b) where
           go (Some f) e = inr (dead_end 0 (below top_key) f top_key (here refl) e (at_top q laws b lawful limits f e))
           go None e = ⊎_elim (λ h. inl (past_top q laws b lawful limits e ∙ h)) (λ h. inr (row-end h e)) (first_cases q laws b lawful limits (row q b))
 
-      live-done : All (λ p. IsLive (slot b p)) (opened q b all) → end ≡ done
+      live-done : Each (λ p. IsLive (slot b p)) (opened q b all) → end ≡ done
       live-done live = ⊎_elim (λ d. d) (λ d. absurd (subst IsLive d.3 (all-at (λ p. IsLive (slot b p)) live d.4))) done_or_dead
 
       names_dead : (end ≡ done → ⊥) → (p : ℕ) × (κ : Key) × (end ≡ halted (fault DeadPage p 0) κ) × (slot b p ≡ dead)

@@ -1,6 +1,6 @@
 -- The row of what a search meets, and the first halt along it.
 use Rattle.std.proofs.Common.{◌≡◌, ℕ, zero, suc, ◌≤◌, Bool, true, false, cond, not, ltb, ◌⊎◌, List, [], ◌∷◌, ◌++◌, map, length, take, Some, None, Ok, Option, sym, refl, ap, ◌∙◌, subst, inl, inr, ⊎_elim, arith}
-use Rattle.std.specs.List.{AllByRecursion as All}
+use Rattle.std.specs.List.{AllByRecursion as Each}
 use Rattle.std.proofs.lemmas.Bool.Decides.{nat_tests}
 use Rattle.std.proofs.lemmas.Bool.{cases_Bool, both_ways, not_from_true, not_from_false}
 use Rattle.std.proofs.ByRecursion.{All-weaker}
@@ -140,7 +140,7 @@ module _ (q : Query) (laws : Laws q) (b : Book) (lawful : Lawful b) where
     opens-live p u h = live-false (slot b p) (both-pass _ _ _ _ h).0
 
     -- as far as nothing halts the search, what it opens is live
-    pub live-opened : (u : Bound) → open_fault q b limits 0 (below top_key) ≡ None → ((k : Key) → within u k ≡ true → within (listed_bound (ending q b limits)) k ≡ true) → All (λ p. IsLive (slot b p)) (opened q b u)
+    pub live-opened : (u : Bound) → open_fault q b limits 0 (below top_key) ≡ None → ((k : Key) → within u k ≡ true → within (listed_bound (ending q b limits)) k ≡ true) → Each (λ p. IsLive (slot b p)) (opened q b u)
     live-opened u top f =
         opened-all q laws b u (λ p. IsLive (slot b p)) (opens-live 0 (below top_key) top) (λ c m w. opens-live c.page (up_to (page_key q c)) (clear-before (row q b) rising-row (Page c) (page_in_row m) (subst (λ e. within (listed_bound e) (page_key q c) ≡ true) (past_top top) (f (page_key q c) w))))
 

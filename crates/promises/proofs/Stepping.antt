@@ -5,7 +5,6 @@ use Rattle.std.proofs.ByRecursion.{All-weaker}
 use Rattle.stations.specs.declared.station.Station as stated
 use Rattle.stations.specs.declared.key.Key.{Key}
 use Rattle.stations.specs.Keys.{before}
-use Rattle.books.specs.declared.Entry.TheVariants.{Station}
 use Rattle.books.specs.Lists.{Pairwise, ◌∈◌, here, there}
 use Rattle.books.specs.Books.{Book, Lawful}
 use Rattle.promises.specs.Bounds.{below, up_to, within}

@@ -1,7 +1,7 @@
 -- Why the search is right, up to any bound on keys.
 use Rattle.std.proofs.Common.{◌≡◌, ℕ, zero, suc, ◌<◌, ◌≤◌, Bool, true, false, ltb, ◌⊎◌, List, sym, refl, ap, subst, inl, inr, ⊎_elim, arith}
 use Rattle.std.proofs.lemmas.Bool.Decides.{nat_tests}
-use Rattle.std.specs.List.{AllByRecursion as All}
+use Rattle.std.specs.List.{AllByRecursion as Each}
 use Rattle.std.proofs.lemmas.Bool.{cases_Bool, both_ways, ltb-true, ltb-false, lt-ltb, and_parts, and_from}
 use Rattle.std.proofs.ByRecursion.{All-map}
 use Rattle.stations.specs.declared.measures.Measures.{Measures}
@@ -69,7 +69,7 @@ module _ (q : Query) (laws : Laws q) where
   in_opened b u m w = there (in_map (λ c. c.page) (in_kept (λ c. within u (page_key q c)) m w))
 
   -- what holds of the top and of each page called for within the bound holds of each page opened
-  pub opened-all : (b : Book) (u : Bound) (P : ℕ → Type 0) → P 0 → ((c : Child) → c ∈ called_for q b → within u (page_key q c) ≡ true → P c.page) → All P (opened q b u)
+  pub opened-all : (b : Book) (u : Bound) (P : ℕ → Type 0) → P 0 → ((c : Child) → c ∈ called_for q b → within u (page_key q c) ≡ true → P c.page) → Each P (opened q b u)
   opened-all b u P z f = (z, All-map P (λ c. c.page) _ (all_from _ _ (λ c m. let k = of-kept (λ c. within u (page_key q c)) (called_for q b) m in f c k.0 k.1)))
 
   pub opened-wider : (b : Book) (u v : Bound) → ((k : Key) → within u k ≡ true → within v k ≡ true) → {p : ℕ} → p ∈ opened q b u → p ∈ opened q b v
@@ -112,7 +112,7 @@ module _ (q : Query) (laws : Laws q) where
         let above = opened-all b (below (page_key q d)) (λ r. r < n → P r) (λ _. top) (λ c m' w' l'. down n c m' (within-before u (page_key q c) (page_key q d) w' w) l') in
         step o.0 d (all-at (λ r. r < n → P r) above (l3 b h o.0 d o.1 t.1) less) o.1 t.1 w
 
-    pub opened_ind : All P (opened q b u)
+    pub opened_ind : Each P (opened q b u)
     opened_ind = opened-all b u P top (λ c m w. down (suc c.page) c m w (omega arith))
 
   -- a chosen station stands on a page
@@ -142,7 +142,7 @@ module _ (q : Query) (laws : Laws q) where
         lands b b' o.0 s (same-slot o.0 (opened-by b u (station_key q s) w o.3)) o.1 o.2
 
     -- what is opened in the other book is opened in this one
-    reach : All (λ p. p ∈ opened q b u) (opened q b' u)
+    reach : Each (λ p. p ∈ opened q b u) (opened q b' u)
     reach = opened_ind b' h' u (λ p. p ∈ opened q b u) (here refl) (λ p d i m t w.
         let on : d ∈ named b = in_joined children_on refl b p (subst (λ x. d ∈ children_on x) (sym (same-slot p i)) m) in
         let a = and_parts _ _ t in

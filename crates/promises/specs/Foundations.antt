@@ -1,6 +1,6 @@
 -- What the promises rest on, for every query that keeps the laws and every lawful book.
 use Rattle.std.specs.Prelude.{◌≡◌, ℕ, ◌≤◌, true, false, ◌⊎◌, List}
-use Rattle.std.specs.List.{AllByRecursion as All}
+use Rattle.std.specs.List.{AllByRecursion as Each}
 use Rattle.stations.specs.declared.measures.Measures.{Measures}
 use Rattle.stations.specs.declared.station.Station.{Station}
 use Rattle.stations.specs.declared.key.Kind.{Kind}
@@ -14,7 +14,7 @@ use Rattle.promises.specs.Opening.{called_for, opened, listed}
 
 -- the two books have the same slots at these places
 abbrev pub Agree : List ℕ → Book → Book → Type 0
-Agree ps b b' = All (λ p. slot b p ≡ slot b' p) ps
+Agree ps b b' = Each (λ p. slot b p ≡ slot b' p) ps
 
 -- where k of the stations in play are over measures, k of the answer are
 abbrev pub Counting : Type 0
@@ -34,7 +34,7 @@ Standing = (q : Query) → Laws q → (b : Book) → Lawful b → (s : Station) 
 
 -- what is opened as far as one bound is opened as far as another, or that one names a page called for that lies between
 abbrev pub Onward : Type 0
-Onward = (q : Query) → Laws q → (b : Book) → Lawful b → (u v : Bound) → All (λ p. (p ∈ opened q b u) ⊎ ((n : ℕ) × (e : Child) × (n ∈ opened q b u) × (e ∈ children_on (slot b n)) × (e ∈ called_for q b) × (within u (page_key q e) ≡ false) × (within v (page_key q e) ≡ true))) (opened q b v)
+Onward = (q : Query) → Laws q → (b : Book) → Lawful b → (u v : Bound) → Each (λ p. (p ∈ opened q b u) ⊎ ((n : ℕ) × (e : Child) × (n ∈ opened q b u) × (e ∈ children_on (slot b n)) × (e ∈ called_for q b) × (within u (page_key q e) ≡ false) × (within v (page_key q e) ≡ true))) (opened q b v)
 
 -- lawful books that agree on what the search opens in one of them as far as a bound have the same answer as far as that bound
 abbrev pub SameAnswers : Type 0

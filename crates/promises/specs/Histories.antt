@@ -1,6 +1,6 @@
 -- What a run was called for and what it answered, and what stands after it.
 use Rattle.std.specs.Prelude.{◌≡◌, ℕ, zero, suc, ◌≤◌, List, [], ◌∷◌, ◌++◌, length, Some, None, Ok, Err, Option, Result, ◌≢◌}
-use Rattle.std.specs.List.{AllByRecursion as All}
+use Rattle.std.specs.List.{AllByRecursion as Each}
 use Rattle.stations.specs.declared.measures.Measures.{Measures}
 use Rattle.stations.specs.declared.station.Station.{Station}
 use Rattle.stations.specs.declared.question.Question.{Question}
@@ -85,7 +85,7 @@ pub record Promised (q : Query) (b : Book) (limits : Limits) (n : ℕ) (out : Li
   -- and after done it has exactly that answer
   pub sound_done : phase q b limits n ≡ done → (w : Book) → Keeps b (opened_after q b limits n) w → answer q w ≡ out
   -- a set of live pages that settles the question holds every page opened so far, and has at least as many
-  pub frugal : (ps : List ℕ) → Settles q b ps → All (λ p. p ∈ ps) (opened_after q b limits n) × (length (opened_after q b limits n) ≤ length ps)
+  pub frugal : (ps : List ℕ) → Settles q b ps → Each (λ p. p ∈ ps) (opened_after q b limits n) × (length (opened_after q b limits n) ≤ length ps)
   -- after done, the pages opened settle the question
   pub settled : phase q b limits n ≡ done → Settles q b (opened_after q b limits n)
   -- a halt within the limits names a dead page, and nothing settles the question

@@ -14,3 +14,4 @@ pub mod Turning
 pub mod Foundations
 pub mod Filling
 pub mod Checking
+pub mod Cases

@@ -1,6 +1,6 @@
 -- What is promised of every search: for every question that keeps the laws, every lawful book and every pair of limits.
 use Rattle.std.specs.Prelude.{◌≡◌, ℕ, suc, ◌≤◌, List, ◌++◌, length, None, Ok, ◌≢◌}
-use Rattle.std.specs.List.{AllByRecursion as All}
+use Rattle.std.specs.List.{AllByRecursion as Each}
 use Rattle.stations.specs.declared.key.Key.{Key}
 use Rattle.stations.specs.declared.fault.Code.TheVariants.{DeadPage}
 use Rattle.stations.specs.Faults.{fault}
@@ -29,7 +29,7 @@ SoundDone = (q : Query) → Laws q → (b : Book) → Lawful b → (limits : Lim
 -- every set of live pages that settles the question holds every page opened so far, and so has at least as many
 abbrev pub Frugal : Type 0
 Frugal = (q : Query) → Laws q → (b : Book) → Lawful b → (limits : Limits) (n : ℕ) (ps : List ℕ) → Settles q b ps →
-    All (λ p. p ∈ ps) (opened_after q b limits n) × (length (opened_after q b limits n) ≤ length ps)
+    Each (λ p. p ∈ ps) (opened_after q b limits n) × (length (opened_after q b limits n) ≤ length ps)
 
 -- a search is done exactly when some set of live pages settles the question, and otherwise it names a dead page
 pub record Decides (q : Query) (b : Book) (limits : Limits) : Type 0 where

@@ -1,6 +1,6 @@
 -- One turn of a search that takes the least of what waits: what that entry tells of the book.
 use Rattle.std.specs.Prelude.{◌≡◌, suc, Bool, true, false, List, [], ◌∷◌, ◌++◌, length, filter}
-use Rattle.std.specs.List.{AllByRecursion as All}
+use Rattle.std.specs.List.{AllByRecursion as Each}
 use Rattle.stations.specs.declared.station.Station as stated
 use Rattle.stations.specs.Keys.{before}
 use Rattle.stations.specs.Counting.{count}
@@ -22,7 +22,7 @@ Same {A} xs ys = (t : A → Bool) → count t xs ≡ count t ys
 -- an entry with the least key, and the others
 pub record Least (q : Query) (xs : List Entry) (e : Entry) (rest : List Entry) : Type 0 where
   pub same : Same xs (e ∷ rest)
-  pub least : All (λ f. before (key_of q f) (key_of q e) ≡ false) rest
+  pub least : Each (λ f. before (key_of q f) (key_of q e) ≡ false) rest
 
 -- the search has come as far as u, and takes the entry e; the rest wait
 pub record Turns (q : Query) (b : Book) (u : Bound) (e : Entry) (rest : List Entry) : Type 0 where

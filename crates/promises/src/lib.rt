@@ -3,6 +3,7 @@
 // else.
 ghost use Rattle.promises.specs.Bands.{BandsKeepLaws, BandsAnswer};
 ghost use Rattle.promises.specs.Answering.{AnswersAreBands};
+ghost use Rattle.promises.specs.Cases.{WorkedCases};
 ghost use Rattle.promises.specs.Checking.{Checked};
 ghost use Rattle.promises.specs.Filling.{Fillable};
 ghost use Rattle.promises.specs.Foundations.{Counting, Listed, Upward, Standing, Onward, SameAnswers};
@@ -136,10 +137,16 @@ pub fn named_pages_can_be_filled() -> u8
     0
 }
 
-// A test for books that are written out.
+// Worked books and searches.
 
 pub fn tested_books_are_lawful() -> u8
     ensures { Checked }
+{
+    0
+}
+
+pub fn worked_cases_hold() -> u8
+    ensures { WorkedCases }
 {
     0
 }
