@@ -1,6 +1,6 @@
 -- What is promised of the searches that are printed.
 use Rattle.std.proofs.Common.{◌≡◌, ℕ, suc, ◌≤◌, true, List, [], ◌∷◌, length, None, sym, refl, ap, ◌∙◌, subst, arith}
-use Rattle.std.specs.List.{AllByRecursion as All}
+use Rattle.std.specs.List.{AllByRecursion as Each}
 use Rattle.std.proofs.lemmas.List.{take_all}
 use Rattle.stations.specs.declared.measures.Measures.{Measures}
 use Rattle.stations.specs.declared.station.Station.{Station}
@@ -42,7 +42,7 @@ keeps_promises rank b question mono lawful fine =
     let all = handed q b limits in
     subst (Promised q b limits (suc (length all))) (take_all (suc (length all)) all (omega arith)) (promised-at q (bands-keep-laws rank question mono) b lawful limits (suc (length all)))
 
-all-ordinary : (ss : List Station) → All (λ s. pass admits station_line (station_numbers s) ≡ true) ss → All (λ s. Ordinary s.at) ss
+all-ordinary : (ss : List Station) → Each (λ s. pass admits station_line (station_numbers s) ≡ true) ss → Each (λ s. Ordinary s.at) ss
 all-ordinary [] h = tt
 all-ordinary (s ∷ ss) h = (ordinary-at station_line (station_numbers s) 1 h.0 refl (omega arith) refl refl refl refl, all-ordinary ss h.1)
 

@@ -1,6 +1,6 @@
 -- Call after call of `next`.
 use Rattle.std.proofs.Common.{◌≡◌, ℕ, suc, ◌+◌, ◌<◌, List, [], ◌∷◌, ◌++◌, length, Some, None, Ok, Err, Result, sym, refl, ap, ◌∙◌, subst, arith}
-use Rattle.std.specs.List.{AllByRecursion as All}
+use Rattle.std.specs.List.{AllByRecursion as Each}
 use Rattle.std.proofs.lemmas.List.{append_assoc, append-nil, same_from_push, length_push}
 use Rattle.std.proofs.ByRecursion.{All-append}
 use Rattle.stations.specs.declared.measures.Measures.{Measures}
@@ -63,7 +63,7 @@ module _ {S R : Type 0} (book : S → Book) (meter : S → ℕ) (score : R → M
   pub record Handing (before i : ℕ) (r : Run S R) : Type 0 where
     pub events : List Event
     pub stands : Standing
-    pub only_next : All (λ x. call_of x ≡ Next) events
+    pub only_next : Each (λ x. call_of x ≡ Next) events
     pub same : question_of stands ≡ question_of stood
     pub produces : Produces book meter score rank b (h ++ events) stands m r
     pub more : length (listing r.listed) ≡ before + i
@@ -75,7 +75,7 @@ module _ {S R : Type 0} (book : S → Book) (meter : S → ℕ) (score : R → M
     then_next : Produces book meter score rank b (h ++ (g.events ++ nexted reply ∷ [])) (after_next g.stands) m r'
     then_next = subst (λ l. Produces book meter score rank b l (after_next g.stands) m r') (append_assoc h g.events (nexted reply ∷ [])) p
 
-    all-next : All (λ x. call_of x ≡ Next) (g.events ++ nexted reply ∷ [])
+    all-next : Each (λ x. call_of x ≡ Next) (g.events ++ nexted reply ∷ [])
     all-next = All-append (λ x. call_of x ≡ Next) g.events (nexted reply ∷ []) g.only_next (refl, tt)
 
     pub handing-more : (s : Station) → reply ≡ Ok (Some s) → Handing before (i + 1) r'

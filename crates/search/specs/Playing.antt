@@ -1,6 +1,6 @@
 -- Calls made on a new run, and what is promised after them.
 use Rattle.std.specs.Prelude.{◌≡◌, ℕ, List, ◌++◌, map, Some, None, Ok, Err, Option, Result}
-use Rattle.std.specs.List.{AllByRecursion as All}
+use Rattle.std.specs.List.{AllByRecursion as Each}
 use Rattle.stations.specs.declared.measures.Measures.{Measures}
 use Rattle.stations.specs.declared.question.Question.{Question}
 use Rattle.stations.specs.declared.fault.Fault.{Fault}
@@ -56,7 +56,7 @@ question_of (asked question n) = Some question
 pub record Driven {S R : Type 0} (book : S → Book) (meter : S → ℕ) (score : R → Measures → ℕ) (rank : Measures → ℕ) (b : Book) (h : List Event) (stood : Standing) (m : ℕ) (e : Result (Unit {0}) Fault) (r : Run S R) : Type 0 where
   pub events : List Event
   pub stands : Standing
-  pub only_next : All (λ x. call_of x ≡ Next) events
+  pub only_next : Each (λ x. call_of x ≡ Next) events
   pub same : question_of stands ≡ question_of stood
   pub produces : Produces book meter score rank b (h ++ events) stands m r
   pub ends : Ends rank b stands e

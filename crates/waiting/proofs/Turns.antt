@@ -1,6 +1,6 @@
 -- One turn of a run, against the book.
 use Rattle.std.proofs.Common.{◌≡◌, ℕ, zero, suc, ◌+◌, ◌<◌, ◌≤◌, Bool, true, false, ltb, leb, List, [], ◌∷◌, ◌++◌, map, length, Some, None, Ok, Err, filter, sym, refl, ap, ◌∙◌, subst, ⊎_elim, arith}
-use Rattle.std.specs.List.{AllByRecursion as All}
+use Rattle.std.specs.List.{AllByRecursion as Each}
 use Rattle.std.proofs.lemmas.List.{nil_from_length, append-nil}
 use Rattle.std.proofs.ByRecursion.{All-map, all_shuffled}
 use Rattle.std.proofs.lemmas.Bool.{cases_Bool, cases_eq, both_ways, not-true, not_from_true, lt-ltb, le-ltb, le-leb, lt-leb}
@@ -108,7 +108,7 @@ module _ (q : Query) (laws : Laws q) (b : Book) (lawful : Lawful b) where
       abbrev κ : Key
       κ = key_of q w.entry
 
-      keyed : Keyed q w × All (Keyed q) ys
+      keyed : Keyed q w × Each (Keyed q) ys
       keyed = all_shuffled (Keyed q) xs (w ∷ ys) taken.holds at-u.keys
 
       least : Least q (waiting q b u) e (entries_of ys)
@@ -117,7 +117,7 @@ module _ (q : Query) (laws : Laws q) (b : Book) (lawful : Lawful b) where
         least = All-map (λ f. before (key_of q f) κ ≡ false) (λ v. v.entry) ys (firsts ys (taken.least at-u.heap) keyed.1);
       }
         where
-          firsts : (vs : List Waiting) → All (λ v. before v.key w.key ≡ false) vs → All (Keyed q) vs → All (λ v. before (key_of q v.entry) κ ≡ false) vs
+          firsts : (vs : List Waiting) → Each (λ v. before v.key w.key ≡ false) vs → Each (Keyed q) vs → Each (λ v. before (key_of q v.entry) κ ≡ false) vs
           firsts [] h k = tt
           firsts (v ∷ vs) h k = (ap (λ j. before j κ) (sym k.0) ∙ ap (λ j. before v.key j) (sym keyed.0) ∙ h.0, firsts vs h.1 k.1)
 
@@ -317,7 +317,7 @@ module _ (q : Query) (laws : Laws q) (b : Book) (lawful : Lawful b) where
     begun room o =
         let same = top-same o.2 in
         record {
-          keys = o.2.keys (subst (All (Keyed q)) (sym none-waits) tt);
+          keys = o.2.keys (subst (Each (Keyed q)) (sym none-waits) tt);
           heap = o.2.heap (subst (Heaped by_key) (sym none-waits) (none_heaped by_key));
           waits = same;
           listed = none-listed ∙ sym (kept-none (λ s. before (station_key q s) top_key) (answer q b) (all_from _ (answer q b) (λ s _. top-first (station_key q s))));

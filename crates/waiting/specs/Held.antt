@@ -1,7 +1,7 @@
 -- What the waiting and the listed hold, and what putting and taking do.
 use Rattle.std.specs.Prelude.{◌≡◌, ℕ, ◌+◌, ◌<◌, ◌≤◌, Bool, true, false, List, [], ◌∷◌, ◌++◌, map, length, take, Some, None, filter, Option}
 use Rattle.std.specs.List.Sorted.{IsPermutation}
-use Rattle.std.specs.List.{AllByRecursion as All}
+use Rattle.std.specs.List.{AllByRecursion as Each}
 use Rattle.stations.specs.declared.station.Station.{Station}
 use Rattle.stations.specs.Keys.{before}
 use Rattle.stations.specs.Counting.{count}
@@ -54,7 +54,7 @@ Puts limit xs w false ys = (length xs ≡ limit) × (ys ≡ xs)
 pub record Taken (xs : List Waiting) (w : Waiting) (ys : List Waiting) : Type 0 where
   pub holds : IsPermutation xs (w ∷ ys)
   pub heap : Heaped by_key xs → Heaped by_key ys
-  pub least : Heaped by_key xs → All (λ v. before v.key w.key ≡ false) ys
+  pub least : Heaped by_key xs → Each (λ v. before v.key w.key ≡ false) ys
 
 -- so it is where some wait
 abbrev pub Takes : List Waiting → Option Waiting → List Waiting → Type 0
@@ -64,7 +64,7 @@ Takes xs None ys = (length xs ≡ 0) × (ys ≡ xs)
 -- those of the entries that pass wait too
 pub record Filled (q : Query) (ss : List Station) (es : List Entry) (xs ys : List Waiting) : Type 0 where
   pub same : Same (entries_of ys) (filter (passes q ss) es ++ entries_of xs)
-  pub keys : All (Keyed q) xs → All (Keyed q) ys
+  pub keys : Each (Keyed q) xs → Each (Keyed q) ys
   pub heap : Heaped by_key xs → Heaped by_key ys
 
 -- so it is where there is room for them

@@ -1,6 +1,6 @@
 -- How far a search has come, by what waits and what is listed.
 use Rattle.std.specs.Prelude.{◌≡◌, ℕ, suc, ◌+◌, ◌<◌, ◌≤◌, ◌⊎◌, List, length, Some, None, Ok, Err, Option, Result}
-use Rattle.std.specs.List.{AllByRecursion as All}
+use Rattle.std.specs.List.{AllByRecursion as Each}
 use Rattle.stations.specs.declared.station.Station.{Station}
 use Rattle.stations.specs.declared.fault.Fault.{Fault}
 use Rattle.stations.specs.declared.fault.Code.TheVariants.{DeadPage, WaitingFull}
@@ -44,7 +44,7 @@ module _ (q : Query) (b : Book) where
 
   -- the search has come as far as the bound, with this waiting, these stations listed and so many pages opened
   pub record At (u : Bound) (xs : List Waiting) (ss : List Station) (n : ℕ) : Type 0 where
-    pub keys : All (Keyed q) xs
+    pub keys : Each (Keyed q) xs
     pub heap : Heaped by_key xs
     pub waits : Same (entries_of xs) (waiting q b u)
     pub listed : ss ≡ listed q b u

@@ -1,6 +1,6 @@
 -- The bytes of a lawful book whose pages are all live load, and spell the book.
 use Rattle.std.proofs.Common.{◌≡◌, ℕ, zero, suc, ◌+◌, ◌*◌, ◌^◌, ◌<◌, ◌≤◌, Bool, true, false, cond, ◌||◌, eqb, ◌⊎◌, List, [], ◌∷◌, ◌++◌, map, length, get_or, take, drop, is_some, Some, None, sym, refl, ap, ◌∙◌, subst, inl, inr, arith}
-use Rattle.std.specs.List.{flat_map, AllByRecursion as All}
+use Rattle.std.specs.List.{flat_map, AllByRecursion as Each}
 use Rattle.std.proofs.lemmas.List.{append-nil, take_at, get_or-set_same, get_or-set_other, same_lists, length-map, length-set, get_or-map, get_or_past}
 use Rattle.std.proofs.ByRecursion.{All-from_get_or, All-get_or, All-weaker, All-append}
 use Rattle.std.proofs.lemmas.List.FromFn.{length-map-range_with_len, get_or-map-range_with_len}
@@ -20,21 +20,21 @@ use Rattle.stored.proofs.Soundness.{sound-loads}
 use Rattle.writer.specs.Bytes.{slot_bytes, book_bytes}
 use Rattle.writer.proofs.Spelling.{StationFits, ChildFits, SlotFits, not_marked, spelled_back, padded-back, slot-length, length_joined, from_joined}
 
-all-front : {A : Type 0} (Q : A → Type 0) (xs ys : List A) → All Q (xs ++ ys) → All Q xs
+all-front : {A : Type 0} (Q : A → Type 0) (xs ys : List A) → Each Q (xs ++ ys) → Each Q xs
 all-front Q [] ys h = tt
 all-front Q (x ∷ xs) ys h = (h.0, all-front Q xs ys h.1)
 
-all_back : {A : Type 0} (Q : A → Type 0) (xs ys : List A) → All Q (xs ++ ys) → All Q ys
+all_back : {A : Type 0} (Q : A → Type 0) (xs ys : List A) → Each Q (xs ++ ys) → Each Q ys
 all_back Q [] ys h = h
 all_back Q (x ∷ xs) ys h = all_back Q xs ys h.1
 
 -- what holds of all parts holds of the parts of each page
-parts-of : {A : Type 0} (Q : A → Type 0) (part : Slot → List A) (b : Book) (p : ℕ) → p < length b → All Q (flat_map part b) → All Q (part (slot b p))
+parts-of : {A : Type 0} (Q : A → Type 0) (part : Slot → List A) (b : Book) (p : ℕ) → p < length b → Each Q (flat_map part b) → Each Q (part (slot b p))
 parts-of Q part [] p h all = let no_way : ⊥ = omega arith in absurd no_way
 parts-of Q part (s ∷ b) zero h all = all-front Q (part s) (flat_map part b) all
 parts-of Q part (s ∷ b) (suc p) h all = parts-of Q part b p (omega arith) (all_back Q (part s) (flat_map part b) all)
 
-both-all : {A : Type 0} (P Q R : A → Type 0) → ((a : A) → P a → Q a → R a) → (xs : List A) → All P xs → All Q xs → All R xs
+both-all : {A : Type 0} (P Q R : A → Type 0) → ((a : A) → P a → Q a → R a) → (xs : List A) → Each P xs → Each Q xs → Each R xs
 both-all P Q R f [] p q = tt
 both-all P Q R f (x ∷ xs) p q = (f x p.0 q.0, both-all P Q R f xs p.1 q.1)
 
@@ -43,7 +43,7 @@ below-ordinary : (p q : Measures) → p ≼ q → Ordinary q → Ordinary p
 below-ordinary p q h o = record { in1 = (let a = h.in1 in let b = o.in1 in omega arith); in2 = (let a = h.in2 in let b = o.in2 in omega arith); in3 = (let a = h.in3 in let b = o.in3 in omega arith); in4 = (let a = h.in4 in let b = o.in4 in omega arith) }
 
 -- a page that names only pages after p does not name p
-none-named-at : (p : ℕ) (cs : List Child) → All (λ c. p < c.page) cs → count (names p) cs ≡ 0
+none-named-at : (p : ℕ) (cs : List Child) → Each (λ c. p < c.page) cs → count (names p) cs ≡ 0
 none-named-at p [] h = refl
 none-named-at p (c ∷ cs) h =
     let above = h.0 in
@@ -54,9 +54,9 @@ none-named-at p (c ∷ cs) h =
 -- each of these pages, from page p on, names only pages after it
 abbrev After : ℕ → List Slot → Type 0
 After p [] = Unit {0}
-After p (s ∷ ss) = All (λ c. p < c.page) (children_on s) × After (p + 1) ss
+After p (s ∷ ss) = Each (λ c. p < c.page) (children_on s) × After (p + 1) ss
 
-later-named : (q p : ℕ) (ss : List Slot) → q ≤ p → After p ss → All (λ c. q < c.page) (named ss)
+later-named : (q p : ℕ) (ss : List Slot) → q ≤ p → After p ss → Each (λ c. q < c.page) (named ss)
 later-named q p [] h a = tt
 later-named q p (s ∷ ss) h a =
     All-append (λ c. q < c.page) (children_on s) (named ss) (All-weaker (λ (c : Child). p < c.page) (λ (c : Child). q < c.page) (λ c k. omega arith) (children_on s) a.0) (later-named q (p + 1) ss (omega arith) a.1)
@@ -66,7 +66,7 @@ some-bit : (t : Bool) → 1 ≤ bit t → t ≡ true
 some-bit true h = refl
 some-bit false h = let no_way : ⊥ = omega arith in absurd no_way
 
-noted : (l q : ℕ) (notes : Notes) (cs : List Child) → All (λ c. c.page < length notes) cs → 1 ≤ bit (is_named notes q) + count (names q) cs → 1 ≤ bit (is_named (note_all l notes cs) q)
+noted : (l q : ℕ) (notes : Notes) (cs : List Child) → Each (λ c. c.page < length notes) cs → 1 ≤ bit (is_named notes q) + count (names q) cs → 1 ≤ bit (is_named (note_all l notes cs) q)
 noted l q notes [] inside h = omega arith
 noted l q notes (c ∷ cs) inside h =
     let same_length = length-set notes c.page (Some (naming l c)) in
@@ -87,7 +87,7 @@ noted-length l notes [] = refl
 noted-length l notes (c ∷ cs) = noted-length l (note_one l notes c) cs ∙ length-set notes c.page (Some (naming l c))
 
 -- the walk over the bytes of these pages finds each of them
-walked : (p : ℕ) (notes : Notes) (ss : List Slot) → All SlotFits ss → After p ss → All (λ c. c.page < length notes) (named ss)
+walked : (p : ℕ) (notes : Notes) (ss : List Slot) → Each SlotFits ss → After p ss → Each (λ c. c.page < length notes) (named ss)
     → ((i q : ℕ) → p + i ≡ q → i < length ss → (q ≡ 0 → ⊥) → 1 ≤ bit (is_named notes q) + count (names q) (named ss))
     → slots_from p notes (map slot_bytes ss) ≡ ss
 walked p notes [] fits after inside reached = refl
@@ -120,8 +120,8 @@ walked p notes (s ∷ ss) fits after inside reached =
         by (inl some) = let k = noted (level s) q notes (children_on s) (all-front (λ (c : Child). c.page < length notes) (children_on s) (named ss) inside) (omega arith) in omega arith
         by (inr none) = omega arith
 
-module _ (b : Book) (fits : All SlotFits b) where
-  even : All (λ s. length (slot_bytes s) ≡ 256) b
+module _ (b : Book) (fits : Each SlotFits b) where
+  even : Each (λ s. length (slot_bytes s) ≡ 256) b
   even = All-weaker SlotFits (λ s. length (slot_bytes s) ≡ 256) (λ s h. slot-length s h.sizes) b fits
 
   pub book-length : length (book_bytes b) ≡ 256 * length b
@@ -150,7 +150,7 @@ module _ (b : Book) (fits : All SlotFits b) where
       let same : 0 + k ≡ k = omega arith in
       get_or-map-range_with_len (page_bytes (book_bytes b)) 0 (page_count (book_bytes b)) k k d below same ∙ page-back k dead inside ∙ sym (get_or-map slot_bytes b k dead d inside))
 
-module _ (b : Book) (lawful : Lawful b) (alive : (p : ℕ) → p < length b → IsLive (slot b p)) (numbers : All (λ s. s.number < 2 ^ 32) (stations b)) (few : length b ≤ 256) (some : 1 ≤ length b) where
+module _ (b : Book) (lawful : Lawful b) (alive : (p : ℕ) → p < length b → IsLive (slot b p)) (numbers : Each (λ s. s.number < 2 ^ 32) (stations b)) (few : length b ≤ 256) (some : 1 ≤ length b) where
   fits-at : (p : ℕ) → p < length b → SlotFits (slot b p)
   fits-at p h = record {
     alive = alive p h;
@@ -161,14 +161,14 @@ module _ (b : Book) (lawful : Lawful b) (alive : (p : ℕ) → p < length b → 
         (parts-of _ children_on b p h (both-all (λ (c : Child). c.bounds.low ≼ c.bounds.high) (λ (c : Child). Ordinary c.bounds.high) (λ (c : Child). (Ordinary c.bounds.low) × (Ordinary c.bounds.high)) (λ c k o. (below-ordinary c.bounds.low c.bounds.high k o, o)) (named b) lawful.ordered lawful.boxes));
   }
 
-  all_fit : All SlotFits b
+  all_fit : Each SlotFits b
   all_fit = All-from_get_or SlotFits b dead fits-at
 
-  after-all : (p : ℕ) (ss : List Slot) → ((i q : ℕ) → p + i ≡ q → All (λ c. q < c.page) (children_on (get_or ss i dead))) → After p ss
+  after-all : (p : ℕ) (ss : List Slot) → ((i q : ℕ) → p + i ≡ q → Each (λ c. q < c.page) (children_on (get_or ss i dead))) → After p ss
   after-all p [] h = tt
   after-all p (s ∷ ss) h = (h 0 p (omega arith), after-all (p + 1) ss (λ i q e. h (suc i) q (omega arith)))
 
-  named-inside : (ss : List Slot) → ((i : ℕ) → All (λ c. c.page < length b) (children_on (get_or ss i dead))) → All (λ c. c.page < length b) (named ss)
+  named-inside : (ss : List Slot) → ((i : ℕ) → Each (λ c. c.page < length b) (children_on (get_or ss i dead))) → Each (λ c. c.page < length b) (named ss)
   named-inside [] h = tt
   named-inside (s ∷ ss) h = All-append (λ (c : Child). c.page < length b) (children_on s) (named ss) (h 0) (named-inside ss (λ i. h (suc i)))
 
@@ -178,7 +178,7 @@ module _ (b : Book) (lawful : Lawful b) (alive : (p : ℕ) → p < length b → 
   book-back =
       ap (slots_from 0 no_notes) (pages-back b all_fit)
       ∙ walked 0 no_notes b all_fit
-      (after-all 0 b (λ i q e. let same : i ≡ q = omega arith in All-weaker (λ (c : Child). (q < c.page) × (c.page < length b)) (λ (c : Child). q < c.page) (λ c k. k.0) (children_on (slot b i)) (subst (λ j. All (λ (c : Child). (q < c.page) × (c.page < length b)) (children_on (slot b j))) (sym same) (lawful.after q))))
+      (after-all 0 b (λ i q e. let same : i ≡ q = omega arith in All-weaker (λ (c : Child). (q < c.page) × (c.page < length b)) (λ (c : Child). q < c.page) (λ c k. k.0) (children_on (slot b i)) (subst (λ j. Each (λ (c : Child). (q < c.page) × (c.page < length b)) (children_on (slot b j))) (sym same) (lawful.after q))))
       (All-weaker (λ (c : Child). c.page < length b) (λ (c : Child). c.page < length no_notes) (λ c k. omega arith) (named b) (named-inside b (λ i. All-weaker (λ (c : Child). (i < c.page) × (c.page < length b)) (λ (c : Child). c.page < length b) (λ c k. k.1) (children_on (slot b i)) (lawful.after i))))
       (λ i q e below other. let same : i ≡ q = omega arith in let h = lawful.reached q (alive q (omega arith)) other in omega arith)
 

@@ -1,6 +1,6 @@
 -- Rows in code order: sound where the row is, and then not refused.
 use Rattle.std.proofs.Common.{◌≡◌, ℕ, zero, suc, ◌+◌, ◌^◌, ◌<◌, ◌≤◌, Bool, true, false, ◌||◌, eqb, ltb, List, [], ◌∷◌, ◌++◌, length, None, Option, sym, refl, ap, ◌∙◌, subst, arith}
-use Rattle.std.specs.List.{AllByRecursion as All, range_with_len}
+use Rattle.std.specs.List.{AllByRecursion as Each, range_with_len}
 use Rattle.std.proofs.lemmas.List.{append_assoc}
 use Rattle.std.proofs.ByRecursion.{All-append, All-get_or, All-map}
 use Rattle.std.proofs.lemmas.Bool.{ne_eqb, eq-eqb, le-ltb}
@@ -31,7 +31,7 @@ use Rattle.writer.proofs.Books.{book-back, book-loads}
 fine : (t : Bool) (f : Fault) (later : Option Fault) → t ≡ false → later ≡ None → or_else (refuse_if t f) later ≡ None
 fine t f later e h = ap (λ u. or_else (refuse_if u f) later) e ∙ h
 
-zero-fine : (i : ℕ) (row : List Station) → All (λ s. 1 ≤ s.number) row → zero_fault i row ≡ None
+zero-fine : (i : ℕ) (row : List Station) → Each (λ s. 1 ≤ s.number) row → zero_fault i row ≡ None
 zero-fine i [] h = refl
 zero-fine i (s ∷ ss) h = let some = h.0 in fine (eqb s.number 0) (fault OutOfRange i 0) (zero_fault (suc i) ss) (ne_eqb s.number 0 (λ e. omega arith)) (zero-fine (suc i) ss h.1)
 
@@ -69,7 +69,7 @@ module _ (row : List Station) where
   unfolding code_order
   length-order = length-sort earlier_code row
 
-  all-order : (P : Station → Type 0) → All P row → All P (code_order row)
+  all-order : (P : Station → Type 0) → Each P row → Each P (code_order row)
   unfolding code_order
   all-order P h = all-sort earlier_code P row h
 
@@ -93,10 +93,10 @@ module _ (row : List Station) where
   pages-order = length_roll (code_order row) ∙ ap page_count length-order ∙ sym (length_roll row)
 
 -- every page of a roll can be read
-level-live : (row : List Station) (l below : ℕ) → All IsLive (level_pages row l below)
+level-live : (row : List Station) (l below : ℕ) → Each IsLive (level_pages row l below)
 level-live row l below = All-map IsLive (page_at row l below) (range_with_len 0 (pages_of (length row) l)) (all_of (λ i. IsLive (page_at row l below i)) (page-live row l below) (range_with_len 0 (pages_of (length row) l)))
 
-all_live : (row : List Station) (l first : ℕ) → All IsLive (pages_from row l first)
+all_live : (row : List Station) (l first : ℕ) → Each IsLive (pages_from row l first)
 all_live row zero first = level-live row 0 (first + pages_of (length row) 0)
 all_live row (suc l) first =
     let next = first + pages_of (length row) (suc l) in
@@ -107,8 +107,8 @@ roll_live row p h = All-get_or IsLive (roll_book row) p dead h (all_live row (to
 
 -- the bytes of a storable row's roll
 module _ (row : List Station) (h : Storable row) where
-  numbers_in : All (λ s. s.number < 2 ^ 32) (stations (roll_book row))
-  numbers_in = subst (All (λ s. s.number < 2 ^ 32)) (sym (rows_make_books row h.sound).same) h.numbers
+  numbers_in : Each (λ s. s.number < 2 ^ 32) (stations (roll_book row))
+  numbers_in = subst (Each (λ s. s.number < 2 ^ 32)) (sym (rows_make_books row h.sound).same) h.numbers
 
   few-pages : length (roll_book row) ≤ 105
   few-pages = let e = length_roll row in let k = count-few (length row) h.sound.few in omega arith

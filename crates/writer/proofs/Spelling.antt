@@ -1,6 +1,6 @@
 -- The bytes of a page spell the page.
 use Rattle.std.proofs.Common.{◌≡◌, ℕ, zero, suc, ◌+◌, ◌-◌, ◌*◌, ◌/◌, ◌%◌, ◌^◌, ◌<◌, ◌≤◌, true, false, List, [], ◌∷◌, ◌++◌, map, length, get_or, drop, replicate, sym, refl, ap, ◌∙◌, mul-zero, mul-suc, arith}
-use Rattle.std.specs.List.{range_with_len, flat_map, AllByRecursion as All}
+use Rattle.std.specs.List.{range_with_len, flat_map, AllByRecursion as Each}
 use Rattle.std.proofs.lemmas.List.{append_assoc, drop-drop, drop_at, drop_more, get_or-drop, same_lists, length-append, length-replicate, length-map}
 use Rattle.std.proofs.ByRecursion.{All-get_or}
 use Rattle.std.proofs.lemmas.List.FromFn.{length-map-range_with_len, get_or-map-range_with_len}
@@ -18,7 +18,7 @@ use Rattle.writer.specs.Bytes.{station_bytes, child_bytes, entry_bytes, filled, 
 
 -- lists of equally many bytes, one after the other
 module _ {X : Type 0} (f : X → List ℕ) (w : ℕ) where
-  pub length_joined : (xs : List X) → All (λ x. length (f x) ≡ w) xs → length (flat_map f xs) ≡ w * length xs
+  pub length_joined : (xs : List X) → Each (λ x. length (f x) ≡ w) xs → length (flat_map f xs) ≡ w * length xs
   length_joined [] even = sym (mul-zero w)
   length_joined (x ∷ xs) even =
       let more = mul-suc w (length xs) in
@@ -27,7 +27,7 @@ module _ {X : Type 0} (f : X → List ℕ) (w : ℕ) where
       let whole = length-append (f x) (flat_map f xs) in
       omega arith
 
-  pub drop_joined : (i : ℕ) (xs : List X) (z : List ℕ) → All (λ x. length (f x) ≡ w) xs → i ≤ length xs → drop (w * i) (flat_map f xs ++ z) ≡ flat_map f (drop i xs) ++ z
+  pub drop_joined : (i : ℕ) (xs : List X) (z : List ℕ) → Each (λ x. length (f x) ≡ w) xs → i ≤ length xs → drop (w * i) (flat_map f xs ++ z) ≡ flat_map f (drop i xs) ++ z
   drop_joined zero xs z even h = ap (λ k. drop k (flat_map f xs ++ z)) (mul-zero w)
   drop_joined (suc i) [] z even h = let no_way : ⊥ = omega arith in absurd no_way
   drop_joined (suc i) (x ∷ xs) z even h =
@@ -40,14 +40,14 @@ module _ {X : Type 0} (f : X → List ℕ) (w : ℕ) where
       ∙ drop_joined i xs z even.1 inside
 
   -- what stands from place i on
-  pub from_joined : (i : ℕ) (xs : List X) (d : X) (z : List ℕ) → All (λ x. length (f x) ≡ w) xs → i < length xs → drop (w * i) (flat_map f xs ++ z) ≡ f (get_or xs i d) ++ (flat_map f (drop (i + 1) xs) ++ z)
+  pub from_joined : (i : ℕ) (xs : List X) (d : X) (z : List ℕ) → Each (λ x. length (f x) ≡ w) xs → i < length xs → drop (w * i) (flat_map f xs ++ z) ≡ f (get_or xs i d) ++ (flat_map f (drop (i + 1) xs) ++ z)
   from_joined i xs d z even h =
       let inside : i ≤ length xs = omega arith in
       drop_joined i xs z even inside ∙ ap (λ ys. flat_map f ys ++ z) (drop_more xs i d h) ∙ append_assoc (f (get_or xs i d)) (flat_map f (drop (i + 1) xs)) z
 
   -- entries that are read where they were put come back
   module _ (at' : List ℕ → ℕ → X) (Fine : X → Type 0) (reads : (bytes : List ℕ) (n : ℕ) (x : X) (rest : List ℕ) → drop n bytes ≡ f x ++ rest → Fine x → at' bytes n ≡ x) (even : (x : X) → length (f x) ≡ w) where
-    pub read_all : (bytes : List ℕ) (xs : List X) (z : List ℕ) (n : ℕ) → drop 8 bytes ≡ flat_map f xs ++ z → n ≡ length xs → All Fine xs → map (λ i. at' bytes (8 + w * i)) (range_with_len 0 n) ≡ xs
+    pub read_all : (bytes : List ℕ) (xs : List X) (z : List ℕ) (n : ℕ) → drop 8 bytes ≡ flat_map f xs ++ z → n ≡ length xs → Each Fine xs → map (λ i. at' bytes (8 + w * i)) (range_with_len 0 n) ≡ xs
     read_all bytes xs z n e m fine =
         same_lists (map (λ i. at' bytes (8 + w * i)) (range_with_len 0 n)) xs
         (length-map-range_with_len (λ i. at' bytes (8 + w * i)) 0 n ∙ m)
@@ -124,8 +124,8 @@ pub record SlotFits (s : Slot) : Type 0 where
   pub alive : IsLive s
   pub levels : level s ≤ 7
   pub sizes : size s ≤ 12
-  pub stations : All StationFits (stations_on s)
-  pub children : All ChildFits (children_on s)
+  pub stations : Each StationFits (stations_on s)
+  pub children : Each ChildFits (children_on s)
 
 -- the entries come back
 spelled-entries : (s : Slot) → SlotFits s → live_slot (level s) (slot_bytes s) ≡ s

@@ -1,6 +1,6 @@
 -- A whole book, written or refused.
 use Rattle.std.proofs.Common.{◌≡◌, ℕ, ◌*◌, ◌^◌, ◌<◌, ◌≤◌, true, ◌||◌, ltb, ◌⊎◌, List, length, take, drop, Some, None, sym, ap, ◌∙◌, subst, inl, inr}
-use Rattle.std.specs.List.{AllByRecursion as All}
+use Rattle.std.specs.List.{AllByRecursion as Each}
 use Rattle.std.proofs.lemmas.Bool.{lt-ltb, le-ltb, or_left, or_right, or_from}
 use Rattle.stations.specs.declared.fault.Fault.{Fault}
 use Rattle.stations.specs.declared.fault.Code.TheVariants.{ShortBuffer}
@@ -37,7 +37,7 @@ module _ (row : List Station) (places bytes : ℕ) where
       ap (λ o. or_else o (refuse_if (ltb places (length row) || ltb bytes (256 * length (roll_book row))) (placeless ShortBuffer))) e
       ∙ ap (λ t. refuse_if t (placeless ShortBuffer)) (or_from _ _ (le-ltb places (length row) a) (le-ltb bytes (256 * length (roll_book row)) b))
 
-pub storable : (row : List Station) → row_fault row ≡ None → All (λ s. s.number < 2 ^ 32) row → All (λ s. Ordinary s.at) row → Storable row
+pub storable : (row : List Station) → row_fault row ≡ None → Each (λ s. s.number < 2 ^ 32) row → Each (λ s. Ordinary s.at) row → Storable row
 storable row fine numbers measures = record { sound = sound row fine measures; numbers = numbers }
 
 pub order-fine : (row sorted : List Station) → Storable row → sorted ≡ code_order row → row_fault sorted ≡ None

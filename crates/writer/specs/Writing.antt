@@ -1,6 +1,6 @@
 -- What writing a row's book gives, and what is refused.
 use Rattle.std.specs.Prelude.{◌≡◌, ℕ, ◌*◌, ◌^◌, ◌<◌, Bool, false, ◌||◌, List, length, take, drop, Some, None, Ok, Err, Option, Result, nat_lt}
-use Rattle.std.specs.List.{AllByRecursion as All}
+use Rattle.std.specs.List.{AllByRecursion as Each}
 use Rattle.stations.specs.declared.fault.Fault.{Fault}
 use Rattle.stations.specs.declared.fault.Code.TheVariants.{ShortBuffer}
 use Rattle.stations.specs.declared.station.Station.{Station}
@@ -40,7 +40,7 @@ Writes row work work' book book' (Err f) = (write_fault row (length work) (lengt
 -- a row that can be stored: sound, with station numbers of 32 bits
 pub record Storable (row : List Station) : Type 0 where
   pub sound : Sound row
-  pub numbers : All (λ s. s.number < 2 ^ 32) row
+  pub numbers : Each (λ s. s.number < 2 ^ 32) row
 
 -- what the bytes of a row's book keep
 pub record ReadsBack (row : List Station) : Type 0 where
