@@ -1,15 +1,18 @@
 -- From what was read and printed to what is reported.
-use Rattle.std.proofs.Common.{ℕ, ◌-◌, List, take, Ok, Err, Result, refl, subst}
+use Rattle.std.proofs.Common.{◌≡◌, ℕ, ◌-◌, List, take, Some, None, Ok, Err, Result, sym, refl, ap, ◌∙◌, subst}
 use native.Mathlib.Nat.{sub-zero}
 use Rattle.stations.specs.declared.fault.Fault.{Fault}
 use Rattle.stations.specs.declared.station.Station.{Station}
 use Rattle.stations.specs.Rows.{most_stations}
+use Rattle.stations.specs.Answers.{answer}
 use Rattle.logs.specs.declared.log.Log.{Log}
+use Rattle.logs.specs.Checks.{log_fault, score_in, question_in, row_in}
 use Rattle.logs.specs.Reading.{Accepted}
 use Rattle.logs.specs.Rendering.{Rendered}
-use Rattle.printing.specs.Printed.{Printed}
+use Rattle.logs.proofs.ReadAs.{read_as}
+use Rattle.printing.specs.Printed.{listing, refusal, refused_or, Printed}
 use Rattle.reports.specs.declared.outcome.Report.TheVariants.{Done}
-use Rattle.reports.specs.Reports.{answer_lines, answered, Reported}
+use Rattle.reports.specs.Reports.{answer_lines, report_lines, answered, Reported}
 
 module _ {text : List ℕ} {before after : List Station} {log : Log} (a : Accepted text before after log) where
   abbrev rendered : Rendered most_stations text
@@ -31,3 +34,15 @@ module _ {text : List ℕ} {before after : List Station} {log : Log} (a : Accept
 
     pub reported_short : (f : Fault) → Printed (answer_lines log.ranking log.question (take (log.count - 0) after)) was is (Err f) → Reported text was is (Err f)
     reported_short f p = (answer_lines log.ranking log.question (take log.count after), answered rendered refl, printed (Err f) p)
+
+-- the answer to an accepted log is what its bytes say is printed
+pub lines_answered : {text : List ℕ} {before after : List Station} {log : Log} (a : Accepted text before after log) → log_fault most_stations text ≡ None → (was is : List ℕ) (r : Result ℕ Fault) → Printed (answer_lines log.ranking log.question (take (log.count - 0) after)) was is r → Printed (report_lines text) was is r
+lines_answered {text} a none was is r p =
+    subst (λ bytes. Printed bytes was is r)
+    (sym (ap (λ o. refused_or o (listing (score_in text) (answer (score_in text) (question_in text) (row_in text)))) none ∙ read_as a (λ rank q row. listing rank (answer rank q row)))) p
+
+-- and so is the refusal of a refused one
+pub lines_refused : (text : List ℕ) (f : Fault) → log_fault most_stations text ≡ Some f → (was is : List ℕ) (r : Result ℕ Fault) → Printed (refusal f) was is r → Printed (report_lines text) was is r
+lines_refused text f some was is r p =
+    subst (λ bytes. Printed bytes was is r)
+    (sym (ap (λ o. refused_or o (listing (score_in text) (answer (score_in text) (question_in text) (row_in text)))) some)) p

@@ -7,9 +7,9 @@ use Rattle.stations.specs.Rows.{most_stations}
 use Rattle.stations.specs.Answers.{answer}
 use Rattle.rankings.specs.declared.weights.Ranker.{Ranker}
 use Rattle.rankings.specs.Scores.{ranker_score}
-use Rattle.logs.specs.Checks.{log_fault}
+use Rattle.logs.specs.Checks.{log_fault, score_in, question_in, row_in}
 use Rattle.logs.specs.Rendering.{Rendered}
-use Rattle.printing.specs.Printed.{listing, refusal, Printed}
+use Rattle.printing.specs.Printed.{listing, refusal, refused_or, Printed}
 use Rattle.reports.specs.declared.outcome.Report.{Report}
 use Rattle.reports.specs.declared.outcome.Report.TheVariants.{Done, Refused}
 
@@ -31,3 +31,13 @@ abbrev pub Reported : List ℕ → List ℕ → List ℕ → Result Report Fault
 Reported text was is (Ok (Done n)) = (l : Rendered most_stations text) × Printed (listed l) was is (Ok n)
 Reported text was is (Ok (Refused n)) = (f : Fault) × (log_fault most_stations text ≡ Some f) × Printed (refusal f) was is (Ok n)
 Reported text was is (Err e) = (bytes : List ℕ) × Printout text bytes × Printed bytes was is (Err e)
+
+-- what is printed of a text, from its bytes alone: its refusal, or the answer to its question over its row
+abbrev pub report_lines : List ℕ → List ℕ
+report_lines text = refused_or (log_fault most_stations text) (listing (score_in text) (answer (score_in text) (question_in text) (row_in text)))
+
+-- how many bytes were printed, of either
+abbrev pub length_in : Result Report Fault → Result ℕ Fault
+length_in (Ok (Done n)) = Ok n
+length_in (Ok (Refused n)) = Ok n
+length_in (Err f) = Err f

@@ -3,7 +3,7 @@
 ghost use Rattle.std.specs.Prelude.{◌≤◌, length};
 ghost use Rattle.stations.specs.Rows.{most_stations};
 ghost use Rattle.printing.specs.Printed.{Printed};
-ghost use Rattle.reports.specs.Reports.{answer_lines, Reported};
+ghost use Rattle.reports.specs.Reports.{answer_lines, report_lines, length_in, Reported};
 
 use logs::{Log, read_log};
 use printing::{print_listing, print_refusal};
@@ -36,7 +36,8 @@ fn print_answer(row: &[Station], log: &Log, print: &mut [u8]) -> Result<usize, F
 
 // Prints the stations that the log's question asks for and `done`, or the refusal of the log.
 pub fn report(text: &[u8], print: &mut [u8]) -> Result<Report, Fault>
-    ensures { Reported text.now print.old print.new result }
+    ensures reported { Reported text.now print.old print.new result }
+    ensures lines { Printed (report_lines text.now) print.old print.new (length_in result) }
 {
     let mut row = [NOWHERE; MOST_STATIONS];
     match read_log(text, &mut row) {
