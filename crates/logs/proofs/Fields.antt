@@ -1,5 +1,5 @@
 -- The fields of a line, one after the other.
-use Rattle.std.proofs.Common.{◌≡◌, ℕ, ◌+◌, ◌<◌, ◌≤◌, Bool, true, false, not, List, [], ◌∷◌, ◌++◌, length, get_or, take, drop, set, Some, None, Option, sym, refl, ap, ◌∙◌, ap₂, inl, inr, add_assoc, add-one, arith}
+use Rattle.std.proofs.Common.{◌≡◌, ℕ, ◌+◌, ◌<◌, ◌≤◌, Bool, true, false, cond, not, List, [], ◌∷◌, ◌++◌, length, get_or, take, drop, set, Some, None, Option, sym, refl, ap, ◌∙◌, ap₂, inl, inr, add_assoc, add-one, arith}
 use Rattle.stations.specs.declared.fault.Fault.{Fault}
 use Rattle.stations.specs.declared.fault.Code.{Code}
 use Rattle.stations.specs.Faults.{fault, refuse_if, or_else}
@@ -12,7 +12,6 @@ use Rattle.logs.specs.Fields.{spells, reading, paired}
 use Rattle.logs.specs.Checks.{field_fault}
 use Rattle.logs.specs.Tokens.{front}
 use Rattle.logs.specs.Lines.{Free}
-use Rattle.logs.specs.Values.{Said}
 use Rattle.logs.proofs.Cuts.{next, front_piece, front-short}
 use Rattle.logs.specs.declared.field.FieldKind.{FieldKind}
 use Rattle.logs.specs.declared.field.FieldKind.TheVariants.{Letter}
@@ -46,6 +45,22 @@ pub record Going (line : ℕ) (bytes : List ℕ) (kinds : List FieldKind) (ns : 
   pub places : length ns ≡ length kinds
   pub goes : j < length kinds → (at ≤ length bytes) × (drop j (fields_of bytes) ≡ fields_of (drop at bytes))
 
+-- a kind that reads nothing does not spell the field
+pub unspelled : (k : FieldKind) (bs : List ℕ) → ◌≡◌ {A = Option ℕ} None (cond (spells k bs) (Some (reading k bs)) None) → spells k bs ≡ false
+unspelled k bs = go (spells k bs)
+  where
+    go : (t : Bool) → ◌≡◌ {A = Option ℕ} None (cond t (Some (reading k bs)) None) → t ≡ false
+    go true e = let z : ◌≡◌ {A = ℕ} 0 1 = cc in absurd (omega arith)
+    go false e = refl
+
+-- a kind that reads n does, and the field says n
+pub spelled_at : (k : FieldKind) (bs : List ℕ) (n : ℕ) → Some n ≡ cond (spells k bs) (Some (reading k bs)) None → (spells k bs ≡ true) × (n ≡ reading k bs)
+spelled_at k bs n = go (spells k bs)
+  where
+    go : (t : Bool) → Some n ≡ cond t (Some (reading k bs)) None → (t ≡ true) × (n ≡ reading k bs)
+    go true e = (refl, cc)
+    go false e = let z : ◌≡◌ {A = ℕ} 0 1 = cc in absurd (omega arith)
+
 pub going_none : (line : ℕ) (bytes : List ℕ) (kinds : List FieldKind) (ns : List ℕ) → length ns ≡ length kinds → Going line bytes kinds ns 0 0
 going_none line bytes kinds ns e = record { decides = refl; numbers = refl; places = e; goes = λ _. (omega arith, refl) }
 
@@ -73,6 +88,9 @@ module _ (line : ℕ) (bytes : List ℕ) (kinds : List FieldKind) (ns : List ℕ
   fits : at + length (front (drop at bytes)) ≤ length bytes
   fits = let a : at ≤ length bytes = (g.goes more).0 in omega (arith, front-short (drop at bytes), length-drop at bytes)
 
+  pub going_fits : (f : List ℕ) → f ≡ front (drop at bytes) → at + length f ≤ length bytes
+  going_fits f e = let n = ap length e in omega (arith, fits)
+
   after : j + 1 < length kinds → (at + (length (front (drop at bytes)) + 1) ≤ length bytes) × (drop (j + 1) (fields_of bytes) ≡ fields_of (drop (at + (length (front (drop at bytes)) + 1)) bytes))
   after lt =
       let f = front (drop at bytes) in
@@ -89,24 +107,23 @@ module _ (line : ℕ) (bytes : List ℕ) (kinds : List FieldKind) (ns : List ℕ
       let on : drop (length f) (drop at bytes) ≡ get_or bytes (at + length f) 0 ∷ drop (at + length f + 1) bytes = joined ∙ drop_more bytes (at + length f) 0 inside in
       (omega arith, rest_is ∙ ap next on ∙ ap (λ n. fields_of (drop n bytes)) (add_assoc at (length f) 1))
 
-  -- it is, says n and ends at `end`
-  pub going_more : (n end : ℕ) → Said (get_or kinds j Letter) (front (drop at bytes)) at n end → Going line bytes kinds (set ns j n) (j + 1) (end + 1)
-  going_more n end said =
+  -- it is, and says n
+  pub going_more : (n : ℕ) (f : List ℕ) → f ≡ front (drop at bytes) → spells (get_or kinds j Letter) f ≡ true → n ≡ reading (get_or kinds j Letter) f → Going line bytes kinds (set ns j n) (j + 1) (at + (length f + 1))
+  going_more n f is e r =
       let k = get_or kinds j Letter in
       let F = fields_of bytes in
-      let here-is : reading k (get_or F j []) ≡ n = ap (reading k) field_is ∙ sym said.says in
+      let here-is : reading k (get_or F j []) ≡ n = ap (reading k) (field_is ∙ sym is) ∙ sym r in
       let step : paired reading (drop j kinds) (drop j F) ≡ n ∷ paired reading (drop (j + 1) kinds) (drop (j + 1) F) =
       ap₂ (paired reading) (drop_more kinds j Letter more) (drop_more F j [] within) ∙ ap (λ x. x ∷ paired reading (drop (j + 1) kinds) (drop (j + 1) F)) here-is in
       let lt : j < length ns = omega (arith, g.places) in
-      let past : end + 1 ≡ at + (length (front (drop at bytes)) + 1) = omega (arith, said.ends) in
       record {
-        decides = sym (left-pass spells BadField line kinds F j [] more within (ap (spells k) field_is ∙ said.written)) ∙ g.decides;
+        decides = sym (left-pass spells BadField line kinds F j [] more within (ap (spells k) (field_is ∙ sym is) ∙ e)) ∙ g.decides;
         numbers =
             ap (λ xs. xs ++ paired reading (drop (j + 1) kinds) (drop (j + 1) F)) (take_more_set ns j n lt)
             ∙ append_assoc (take j ns) (n ∷ []) (paired reading (drop (j + 1) kinds) (drop (j + 1) F))
             ∙ ap (λ xs. take j ns ++ xs) (sym step) ∙ g.numbers;
         places = length-set ns j n ∙ g.places;
-        goes = λ h. let a = after h in (omega (arith, a.0, past), a.1 ∙ ap (λ i. fields_of (drop i bytes)) (sym past));
+        goes = λ h. let a = after h in let m = ap length is in (omega (arith, a.0, m), a.1 ∙ ap (λ xs. fields_of (drop (at + (length xs + 1)) bytes)) (sym is));
       }
 
 -- every field is read

@@ -1,13 +1,14 @@
 // Fields: what each kind of field may hold, and how it is read.
-ghost use Rattle.std.specs.Prelude.{◌≡◌, ◌+◌, ◌-◌, ◌<◌, ◌≤◌, false, length, drop, IfSome, MatchOption, slice_index};
+ghost use Rattle.std.specs.Prelude.{◌≡◌, if◌then◌else◌, Some, None, ◌+◌, ◌-◌, ◌<◌, ◌≤◌, false, length, drop, IfSome, MatchOption, slice_index};
 ghost use Rattle.std.specs.Char.{is_ascii_digit};
-ghost use Rattle.logs.specs.Numerals.{most_digits};
+ghost use Rattle.logs.specs.Numerals.{most_digits, spelled, value};
 ghost use Rattle.logs.specs.Tokens.{front, is_end};
-ghost use Rattle.logs.specs.Fields.{spells, admits};
+ghost use Rattle.logs.specs.Fields.{spells, reading, admits, is_letter};
 ghost use Rattle.logs.specs.Checks.{most_bytes};
 ghost use Rattle.logs.specs.Values.{Along, Said, Closed};
 
-use crate::token::{Token, is_part, next_token};
+use crate::line::field_at;
+use crate::token::is_part;
 use rankings::MOST_WEIGHT;
 
 // k and the bounds of a region are read as measures are.
@@ -54,6 +55,36 @@ pub(crate) const SUM_LETTER: u8 = b'S';
 
 const LARGEST_LETTER: u8 = b'W';
 
+// A number of 1 to 10 digits, with no 0 in front of another digit.
+fn read_number(bytes: &[u8]) -> Option<u64>
+    ensures { result ≡ (if spelled bytes.now then Some (value bytes.now) else None) }
+{
+    if bytes.len() == 0 || bytes.len() > MOST_DIGITS {
+        return None;
+    }
+    if bytes[0] == b'0' && bytes.len() > 1 {
+        return None;
+    }
+    let mut n = 0u64;
+    for b in bytes {
+        if *b < b'0' || *b > b'9' {
+            return None;
+        }
+        n = 10 * n + (*b - b'0') as u64;
+    }
+    Some(n)
+}
+
+// One byte, S or W.
+fn read_letter(bytes: &[u8]) -> Option<u64>
+    ensures { result ≡ (if is_letter bytes.now then Some (reading FieldKind.Letter bytes.now) else None) }
+{
+    match bytes {
+        [letter] if *letter == SUM_LETTER || *letter == LARGEST_LETTER => Some(*letter as u64),
+        _ => None,
+    }
+}
+
 // What a field says, and where it ends.
 #[derive(Clone, Copy)]
 pub(crate) struct FieldValue {
@@ -99,7 +130,7 @@ fn is_end(line: &[u8], at: usize) -> bool
     is_part(line[at])
 }
 
-// A number of 1 to 10 digits, with no 0 in front of another digit. The bytes are walked once.
+// The number that begins at a place of a line, as it is read above, and where it ends. The bytes are walked once.
 fn number_at(line: &[u8], at: usize) -> Option<FieldValue>
     requires short { length line.now ≤ most_bytes }
     requires within { at ≤ length line.now }
@@ -116,20 +147,7 @@ fn number_at(line: &[u8], at: usize) -> Option<FieldValue>
     Some(value)
 }
 
-// The field that begins at a place of a line. It is empty where a comma comes at once, or nothing.
-fn field_at<'a>(line: &'a [u8], at: usize) -> &'a [u8]
-    ensures { result.now ≡ front (drop at line.now) }
-{
-    let Some(token) = next_token(line, at) else {
-        return &line[0..0];
-    };
-    match token {
-        Token::Field(bytes, _) => bytes,
-        Token::Comma(_) | Token::LineEnd(_) => &line[0..0],
-    }
-}
-
-// One byte, S or W.
+// The letter that begins at a place of a line.
 fn letter_at(line: &[u8], at: usize) -> Option<FieldValue>
     requires short { length line.now ≤ most_bytes }
     requires within { at ≤ length line.now }
@@ -145,6 +163,16 @@ fn letter_at(line: &[u8], at: usize) -> Option<FieldValue>
 }
 
 impl FieldKind {
+    // What the field says, or None where it is not written as its kind asks.
+    pub(crate) fn read(self, bytes: &[u8]) -> Option<u64>
+        ensures { result ≡ (if spells self bytes.now then Some (reading self bytes.now) else None) }
+    {
+        match self {
+            FieldKind::Letter => read_letter(bytes),
+            FieldKind::Number | FieldKind::Measure | FieldKind::Weight => read_number(bytes),
+        }
+    }
+
     // What the field that begins at a place says, or None where it is not written as its kind asks.
     pub(crate) fn read_at(self, line: &[u8], at: usize) -> Option<FieldValue>
         requires short { length line.now ≤ most_bytes }

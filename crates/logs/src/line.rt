@@ -1,8 +1,9 @@
 // Lines: found in the text, and read field by field.
-ghost use Rattle.std.specs.Prelude.{◌≡◌, ◌+◌, ◌<◌, ◌≤◌, true, length, IfSome, is_ok, Some, None, MatchOption};
+ghost use Rattle.std.specs.Prelude.{◌≡◌, ◌+◌, ◌<◌, ◌≤◌, true, length, drop, IfSome, is_ok, Some, None, MatchOption};
 ghost use Rattle.stations.specs.declared.fault.Code.TheVariants.{BadField, OutOfRange};
 ghost use Rattle.stations.specs.Faults.{fault, verdict};
 ghost use Rattle.logs.specs.Pieces.{line_end, fields_of};
+ghost use Rattle.logs.specs.Tokens.{front};
 ghost use Rattle.logs.specs.Fields.{spells, admits};
 ghost use Rattle.logs.specs.Checks.{most_bytes, field_fault, line_fault, numbers_of};
 ghost use Rattle.logs.specs.Lines.{Free, Found, Unended};
@@ -46,6 +47,19 @@ pub(crate) fn line_at<'a>(text: &'a [u8], start: usize) -> Option<Line<'a>>
     None
 }
 
+// The field that begins at a place of a line. It is empty where a comma comes at once, or nothing.
+pub(crate) fn field_at<'a>(line: &'a [u8], at: usize) -> &'a [u8]
+    ensures { result.now ≡ front (drop at line.now) }
+{
+    let Some(token) = next_token(line, at) else {
+        return &line[0..0];
+    };
+    match token {
+        Token::Field(bytes, _) => bytes,
+        Token::Comma(_) | Token::LineEnd(_) => &line[0..0],
+    }
+}
+
 // Why a field is refused. Its place in the row of kinds is from 0, and fields are counted from 1.
 fn field_fault(code: Code, line: u32, place: usize) -> Fault
     requires { place < 14 }
@@ -75,11 +89,12 @@ fn read_fields(
 {
     let mut at = 0;
     for j in 0..kinds.len() {
-        let Some(value) = kinds[j].read_at(line, at) else {
-            return Err(field_fault(Code::BadField, number, j));
-        };
-        numbers[j] = value.number;
-        at = value.end + 1;
+        let field = field_at(line, at);
+        match kinds[j].read(field) {
+            Some(n) => numbers[j] = n,
+            None => return Err(field_fault(Code::BadField, number, j)),
+        }
+        at += field.len() + 1;
     }
     Ok(())
 }

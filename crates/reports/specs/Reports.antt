@@ -1,18 +1,43 @@
--- What the plain scan prints of a log's text.
-use Rattle.std.specs.Prelude.{ℕ, List}
-use Rattle.stations.specs.declared.measures.Measures.{Measures}
+-- What is printed of a log's text.
+use Rattle.std.specs.Prelude.{◌≡◌, ℕ, List, Some, Ok, Err, Result}
+use Rattle.stations.specs.declared.fault.Fault.{Fault}
 use Rattle.stations.specs.declared.station.Station.{Station}
 use Rattle.stations.specs.declared.question.Question.{Question}
 use Rattle.stations.specs.Rows.{most_stations}
 use Rattle.stations.specs.Answers.{answer}
+use Rattle.rankings.specs.declared.weights.Ranker.{Ranker}
+use Rattle.rankings.specs.Scores.{ranker_score}
 use Rattle.logs.specs.Checks.{log_fault, score_in, question_in, row_in}
-use Rattle.printing.specs.declared.closing.Closing.TheVariants.{Complete}
-use Rattle.printing.specs.Printed.{closing_line, listing, refused_or}
+use Rattle.logs.specs.Rendering.{Rendered}
+use Rattle.printing.specs.Printed.{listing, refusal, refused_or, Printed}
+use Rattle.reports.specs.declared.outcome.Report.{Report}
+use Rattle.reports.specs.declared.outcome.Report.TheVariants.{Done, Refused}
 
 -- the answer over a row, as it is printed
-abbrev pub answer_lines : (Measures → ℕ) → Question → List Station → List ℕ
-answer_lines rank q row = listing rank (closing_line Complete) (answer rank q row)
+abbrev pub answer_lines : Ranker → Question → List Station → List ℕ
+answer_lines r q row = listing (ranker_score r) (answer (ranker_score r) q row)
 
--- the refusal of the text, or the answer to its question over its row
+-- the answer to the question that a log holds, as it is printed
+abbrev pub listed : {text : List ℕ} → Rendered most_stations text → List ℕ
+listed l = answer_lines l.ranker l.question l.row
+
+-- these bytes are to be printed of the text: it is the rendering of a log, and they list its answer; or they are its first refusal
+pub data Printout (text bytes : List ℕ) : Type 0 where
+  answered : (l : Rendered most_stations text) → bytes ≡ listed l → Printout text bytes
+  refused : (f : Fault) → log_fault most_stations text ≡ Some f → bytes ≡ refusal f → Printout text bytes
+
+-- the report says which of the two was printed, and how many bytes; a buffer that is too short for them is refused
+abbrev pub Reported : List ℕ → List ℕ → List ℕ → Result Report Fault → Type 0
+Reported text was is (Ok (Done n)) = (l : Rendered most_stations text) × Printed (listed l) was is (Ok n)
+Reported text was is (Ok (Refused n)) = (f : Fault) × (log_fault most_stations text ≡ Some f) × Printed (refusal f) was is (Ok n)
+Reported text was is (Err e) = (bytes : List ℕ) × Printout text bytes × Printed bytes was is (Err e)
+
+-- what is printed of a text, from its bytes alone: its refusal, or the answer to its question over its row
 abbrev pub report_lines : List ℕ → List ℕ
-report_lines text = refused_or (log_fault most_stations text) (answer_lines (score_in text) (question_in text) (row_in text))
+report_lines text = refused_or (log_fault most_stations text) (listing (score_in text) (answer (score_in text) (question_in text) (row_in text)))
+
+-- how many bytes were printed, of either
+abbrev pub length_in : Result Report Fault → Result ℕ Fault
+length_in (Ok (Done n)) = Ok n
+length_in (Ok (Refused n)) = Ok n
+length_in (Err f) = Err f

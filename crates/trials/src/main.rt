@@ -1,8 +1,7 @@
 #![tactic(auto)]
 // Runs every log of standard input through the report, and prints what it prints. A log stands behind a line with its length.
-use printing::Report;
 use rankings::Weights;
-use reports::report;
+use reports::{Report, report};
 use stations::{Fault, Measures, Station, check_row};
 use std::io::{Read, Write};
 
@@ -27,7 +26,7 @@ fn print_report(rt: &HostRuntime, text: &[u8], room: usize) -> anyhow::Result<()
     let mut print = vec![in rt.alloc(); 0u8; room]?;
     match report(text, print.as_mut_slice()) {
         Ok(Report::Done(n)) => print.truncate(n),
-        Ok(Report::Refused(_, n)) => print.truncate(n),
+        Ok(Report::Refused(n)) => print.truncate(n),
         Err(fault) => return print_fault(rt, fault),
     }
     rt.stdout().write_all(print.as_slice())?;

@@ -1,8 +1,7 @@
 use Rattle.std.proofs.Common.{◌≤◌, take, ap, ◌∙◌, subst, arith, rules}
 use native.Mathlib.Nat.{sub-zero}
 use Rattle.rankings.specs.Scores.{ranker_score}
-use Rattle.printing.specs.declared.closing.Closing.TheVariants.{Complete}
-use Rattle.printing.specs.Printed.{closing_line, listing, Printed}
+use Rattle.printing.specs.Printed.{listing, Printed}
 use Rattle.scans.proofs.Listing.{answer-short}
 use Rattle.reports.proofs.print_answer.Goals as goal
 
@@ -18,4 +17,4 @@ slice_bounds-print_listing-end c =
 pub returns : goal.returns
 returns c =
     let e = ap (λ k. take k c.scan.new.list) (sub-zero c.in_ok-n.n) ∙ c.in_ok-n.ensures.1 in
-    subst (λ found. Printed (listing (ranker_score c.args.log.now.ranking) (closing_line Complete) found) c.args.print.now c.print_listing.new.out c.print_listing.result) e c.print_listing.ensures
+    subst (λ found. Printed (listing (ranker_score c.args.log.now.ranking) found) c.args.print.now c.print_listing.new.out c.print_listing.result) e c.print_listing.ensures

@@ -18,10 +18,10 @@ pub overflow_cast-weights-4 : goal.overflow_cast-weights-4
 overflow_cast-weights-4 c = omega (arith, (weights-small c.args.numbers.now c.requires.admitted c.requires.long).3)
 
 pub invariant_of-weights : goal.invariant_of-weights
-invariant_of-weights c = (weights-small c.args.numbers.now c.requires.admitted c.requires.long, tt)
+invariant_of-weights c = record { small = weights-small c.args.numbers.now c.requires.admitted c.requires.long }
 
 pub invariant_of-weights-else-numbers : goal.invariant_of-weights-else-numbers
-invariant_of-weights-else-numbers c = (weights-small c.args.numbers.now c.requires.admitted c.requires.long, tt)
+invariant_of-weights-else-numbers c = record { small = weights-small c.args.numbers.now c.requires.admitted c.requires.long }
 
 pub returns-then-numbers : goal.returns-then-numbers
 returns-then-numbers c = record { letter = omega arith; weights = refl }

@@ -17,18 +17,18 @@ use Rattle.logs.proofs.log.read_log.Goals as goal
 row-part : (row : List Station) (n : ℕ) → row_fault (take n row) ≡ row_fault (take (n - 0) row)
 row-part row n = ap (λ m. row_fault (take m row)) (sym (sub-zero n))
 
-pub returns-then-text-gt-MOST-BYTES : goal.returns-then-text-gt-MOST-BYTES
-returns-then-text-gt-MOST-BYTES c = record { refused = log-long (length c.args.row.now) c.args.text.now c.if-text-gt-MOST-BYTES.true; kept = refl }
+pub returns-then-text-gt-MOST_BYTES : goal.returns-then-text-gt-MOST_BYTES
+returns-then-text-gt-MOST_BYTES c = record { refused = log-long (length c.args.row.now) c.args.text.now c.if-text-gt-MOST_BYTES.true; kept = refl }
 
 pub returns-in_err-heading : goal.returns-in_err-heading
 returns-in_err-heading c =
     let p = err_from_is_err_and c.from_residual.result c.from_residual.ensures.1 in
-    rw (p.1, p.2) (record { refused = log-lines (length c.args.row.now) c.args.text.now _ c.if-text-gt-MOST-BYTES.false c.in_err-heading.ensures; kept = refl })
+    rw (p.1, p.2) (record { refused = log-lines (length c.args.row.now) c.args.text.now _ c.if-text-gt-MOST_BYTES.false c.in_err-heading.ensures; kept = refl })
 
 pub returns-in_err-count : goal.returns-in_err-count
 returns-in_err-count c =
     let p = err_from_is_err_and c.from_residual-in_err-count.result c.from_residual-in_err-count.ensures.1 in
-    rw (p.1, p.2) (record { refused = log-lines (length c.args.row.now) c.args.text.now _ c.if-text-gt-MOST-BYTES.false (c.in_ok-heading.ensures.decides ∙ c.in_err-count.ensures); kept = refl })
+    rw (p.1, p.2) (record { refused = log-lines (length c.args.row.now) c.args.text.now _ c.if-text-gt-MOST_BYTES.false (c.in_ok-heading.ensures.decides ∙ c.in_err-count.ensures); kept = refl })
 
 pub returns-in_err-check_row : goal.returns-in_err-check_row
 returns-in_err-check_row c =
@@ -36,7 +36,7 @@ returns-in_err-check_row c =
     let h = c.in_ok-heading.heading in
     let local = c.read_stations.new.row in
     let count = c.in_ok-count.count in
-    let after = log-after c.args.text.now h.ranking h.question h.next local count c.if-text-gt-MOST-BYTES.false c.in_ok-heading.ensures c.in_ok-count.ensures (length c.args.row.now) in
+    let after = log-after c.args.text.now h.ranking h.question h.next local count c.if-text-gt-MOST_BYTES.false c.in_ok-heading.ensures c.in_ok-count.ensures (length c.args.row.now) in
     rw (p.1, p.2) (record { refused = after ∙ at_some (row_fault (take count local)) _ _ (row-part local count ∙ verdict-err _ _ c.in_err-check_row.ensures); kept = refl })
 
 pub returns-in_err-check : goal.returns-in_err-check
@@ -45,7 +45,7 @@ returns-in_err-check c =
     let h = c.in_ok-heading.heading in
     let local = c.read_stations.new.row in
     let count = c.in_ok-count.count in
-    let after = log-after c.args.text.now h.ranking h.question h.next local count c.if-text-gt-MOST-BYTES.false c.in_ok-heading.ensures c.in_ok-count.ensures (length c.args.row.now) in
+    let after = log-after c.args.text.now h.ranking h.question h.next local count c.if-text-gt-MOST_BYTES.false c.in_ok-heading.ensures c.in_ok-count.ensures (length c.args.row.now) in
     let rows : row_fault (take count local) ≡ None = row-part local count ∙ verdict-ok _ c.in_ok-check_row.ensures in
     rw (p.1, p.2) (record { refused = after ∙ after_none (row_fault (take count local)) _ rows ∙ at_some (question_fault h.question) _ _ (verdict-err _ _ c.in_err-check.ensures); kept = refl })
 
@@ -55,7 +55,7 @@ returns-then-count-row c =
     let local = c.read_stations.new.row in
     let count = c.in_ok-count.count in
     let room = length c.args.row.now in
-    let after = log-after c.args.text.now h.ranking h.question h.next local count c.if-text-gt-MOST-BYTES.false c.in_ok-heading.ensures c.in_ok-count.ensures room in
+    let after = log-after c.args.text.now h.ranking h.question h.next local count c.if-text-gt-MOST_BYTES.false c.in_ok-heading.ensures c.in_ok-count.ensures room in
     let rows : row_fault (take count local) ≡ None = row-part local count ∙ verdict-ok _ c.in_ok-check_row.ensures in
     let asked : question_fault h.question ≡ None = verdict-ok _ c.in_ok-check.ensures in
     let t : ltb room count ≡ true = lt-ltb room count c.if-count-row.true in
@@ -71,7 +71,7 @@ returns c =
     let count = c.in_ok-count.count in
     let room = length c.args.row.now in
     let text = c.args.text.now in
-    let short : length text ≤ 65536 = c.if-text-gt-MOST-BYTES.false in
+    let short : length text ≤ 65536 = c.if-text-gt-MOST_BYTES.false in
     let head = c.in_ok-heading.ensures in
     let filled = c.in_ok-count.ensures in
     let after = log-after text h.ranking h.question h.next local count short head filled room in

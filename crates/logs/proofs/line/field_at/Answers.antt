@@ -1,7 +1,7 @@
 use Rattle.std.proofs.Common.{sym, subst, inl, inr}
 use Rattle.logs.specs.Tokens.{Reads}
 use Rattle.logs.proofs.Cuts.{front-comma, front-end, front_past}
-use Rattle.logs.proofs.field.field_at.Goals as goal
+use Rattle.logs.proofs.line.field_at.Goals as goal
 
 pub returns-in-Comma : goal.returns-in-Comma
 returns-in-Comma c =
