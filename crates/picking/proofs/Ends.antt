@@ -8,7 +8,6 @@ use Rattle.stations.specs.Faults.{or_else, verdict}
 use Rattle.stations.specs.Questions.{question_fault}
 use Rattle.books.specs.Books.{Book}
 use Rattle.logs.proofs.Verdicts.{verdict-err}
-use Rattle.printing.specs.declared.closing.Closing.{Closing}
 use Rattle.printing.specs.declared.closing.Closing.TheVariants as closing
 use Rattle.printing.specs.Printed.{closing_line, closed_listing, refusal, refused_or, Prints}
 use Rattle.printing.specs.declared.report.Report.{Report}

@@ -1,5 +1,5 @@
 -- What is promised of the searches that are printed.
-use Rattle.std.proofs.Common.{◌≡◌, ℕ, suc, ◌≤◌, true, List, [], ◌∷◌, length, None, sym, refl, ap, ◌∙◌, subst, arith}
+use Rattle.std.proofs.Common.{◌≡◌, ℕ, suc, true, List, [], ◌∷◌, length, None, sym, refl, ap, ◌∙◌, subst, arith}
 use Rattle.std.specs.List.{AllByRecursion as Each}
 use Rattle.std.proofs.lemmas.List.{take_all}
 use Rattle.stations.specs.declared.measures.Measures.{Measures}
@@ -13,7 +13,7 @@ use Rattle.rankings.specs.Scores.{ranker_score}
 use Rattle.rankings.specs.ScoresLemmas.{ranker_rises}
 use Rattle.books.specs.Books.{Book, Lawful}
 use Rattle.rolls.specs.Rolls.{roll_book}
-use Rattle.rolls.specs.Laws.{Sound, RollLaws}
+use Rattle.rolls.specs.Laws.{RollLaws}
 use Rattle.rolls.proofs.Accepting.{sound}
 use Rattle.rolls.proofs.Books.{rows_make_books}
 use Rattle.stored.specs.Loading.{load_fault, spelled_book}
@@ -27,8 +27,7 @@ use Rattle.logs.proofs.ReadAs.{valid-row}
 use Rattle.printing.specs.declared.closing.Closing.TheVariants as closing
 use Rattle.printing.specs.Printed.{closing_line, closed_listing, refused_or}
 use Rattle.promises.specs.Bands.{bands, Monotone}
-use Rattle.promises.specs.Queries.{answer}
-use Rattle.promises.specs.Searching.{done, ending, handed, Within}
+use Rattle.promises.specs.Searching.{ending, handed}
 use Rattle.promises.specs.Histories.{Promised}
 use Rattle.promises.proofs.Bands.{bands-keep-laws, bands-answer}
 use Rattle.promises.proofs.Promises.{exact}

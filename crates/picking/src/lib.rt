@@ -67,8 +67,8 @@ pub fn print_search<S: PageSource + Drop>(
     question: Question,
     print: &mut [u8],
 ) -> Result<Report, Fault>
-    ensures promised { KeepsPromises (ranker_score ranking) (book source) question }
-    ensures prints { Prints (search_fault (ranker_score ranking) (book source) question) (search_lines (ranker_score ranking) (book source) question) print.old print.new result }
+    ensures promised { KeepsPromises (ranker_score ranking) (S.book source) question }
+    ensures prints { Prints (search_fault (ranker_score ranking) (S.book source) question) (search_lines (ranker_score ranking) (S.book source) question) print.old print.new result }
 {
     let mut run = Run::new(source, ranking);
     if let Err(fault) = run.start(question) {
