@@ -32,11 +32,6 @@ returns-in_ok-print_answer-in-Ok c =
       lines = lines_answered a a.accepted c.args.print.now c.print_answer.new.print (Ok n) c.in_ok-print_answer-in-Ok.ensures;
     }
 
-pub returns-in_ok-print_refusal-in-Err : goal.returns-in_ok-print_refusal-in-Err
-returns-in_ok-print_refusal-in-Err c =
-    let r = c.in-Err.ensures in
-    let n = c.in_ok-print_refusal-in-Err.field-0 in
-    record {
-      reported = (c.in-Err.fault, r.refused, c.in_ok-print_refusal-in-Err.ensures);
-      lines = lines_refused c.args.text.now c.in-Err.fault r.refused c.args.print.now c.print_refusal.new.out (Ok n) c.in_ok-print_refusal-in-Err.ensures;
-    }
+pub returns-in_ok-print_refusal-in-Err-clause-lines : goal.returns-in_ok-print_refusal-in-Err-clause-lines
+returns-in_ok-print_refusal-in-Err-clause-lines c =
+    lines_refused c.args.text.now c.in-Err.fault c.in-Err.ensures.refused c.args.print.now c.print_refusal.new.out (Ok c.in_ok-print_refusal-in-Err.field-0) c.in_ok-print_refusal-in-Err.ensures
