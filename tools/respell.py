@@ -7,6 +7,7 @@ It reads what specs/ and proofs/ declare, makes a table of old and new names, an
 text holds such words), in .edit files, and in the code spans of README.md and docs/. Text in quotes stays. --table prints the table and writes nothing.
 
 levelPages -> level_pages      made-next -> made_next      length-decimal stays where `length` and `decimal` are both names
+The library's AllByRecursion, which files import under a name of their own, is Each there: All is another word of the library.
 A new name that another name has already is not taken: the old one keeps its dash, or stands in BY_HAND. A second run changes nothing.
 """
 
@@ -100,6 +101,12 @@ def table():
     return turned, said
 
 
+def own_each(text):
+    if "AllByRecursion as All" not in text:
+        return text
+    return re.sub(r"(?<![\w.'-])All(?![\w'-])", "Each", text)
+
+
 def turn(text, names):
     return WORD.sub(lambda m: names.get(m[0], m[0]), text)
 
@@ -121,7 +128,7 @@ def main(argv):
         return
     for path in files("specs/**/*.antt", "proofs/**/*.antt", "src/**/*.rt", "must-fail/*.edit"):
         old = read(path)
-        new = outside(old, QUOTED, names)
+        new = own_each(outside(old, QUOTED, names))
         if new != old:
             with open(path, "w", encoding="utf-8", newline="") as it:
                 it.write(new)

@@ -1,6 +1,6 @@
 -- Text cut at a byte, and put together again.
 use Rattle.std.proofs.Common.{◌≡◌, ℕ, suc, ◌+◌, ◌-◌, ◌<◌, ◌≤◌, Bool, true, false, eqb, List, [], ◌∷◌, ◌++◌, length, get_or, take, drop, sym, refl, ap, ◌∙◌, append_assoc, append-nil, arith, take-add}
-use Rattle.std.specs.List.{between, AllByRecursion as All}
+use Rattle.std.specs.List.{between, AllByRecursion as Each}
 use Rattle.std.proofs.lemmas.List.{take-append-drop, drop-drop, at_drop_more, at_drop_all, length-take}
 use Rattle.std.proofs.lemmas.List.Edits.{between_more}
 use Rattle.std.proofs.ByRecursion.{All-weaker}
@@ -78,11 +78,11 @@ front_prefix (b ∷ bs) = go (parts b) refl (front_prefix bs)
     go false e h = rw e (ap (λ xs. b ∷ xs) h)
 
 -- it holds neither a comma nor a line end
-pub front-plain : (bs : List ℕ) → All (λ b. parts b ≡ false) (front bs)
+pub front-plain : (bs : List ℕ) → Each (λ b. parts b ≡ false) (front bs)
 front-plain [] = tt
 front-plain (b ∷ bs) = go (parts b) refl (front-plain bs)
   where
-    go : (t : Bool) → parts b ≡ t → All (λ x. parts x ≡ false) (front bs) → All (λ x. parts x ≡ false) (front (b ∷ bs))
+    go : (t : Bool) → parts b ≡ t → Each (λ x. parts x ≡ false) (front bs) → Each (λ x. parts x ≡ false) (front (b ∷ bs))
     go true e h = rw e tt
     go false e h = rw e (e, h)
 

@@ -1,6 +1,6 @@
 -- What a log's text is refused for, check by check, and what an accepted one holds.
 use Rattle.std.proofs.Common.{◌≡◌, ℕ, ◌<◌, ◌≤◌, true, false, ltb, List, [], ◌∷◌, ◌++◌, length, take, Some, None, Option, sym, refl, ap, ◌∙◌, subst, ap₂, append_assoc, arith}
-use Rattle.std.specs.List.{flat_map, AllByRecursion as All}
+use Rattle.std.specs.List.{flat_map, AllByRecursion as Each}
 use Rattle.std.proofs.lemmas.List.{length-take-le}
 use Rattle.std.proofs.lemmas.Bool.{le-ltb, lt-ltb}
 use Rattle.stations.specs.declared.fault.Fault.{Fault}
@@ -47,7 +47,7 @@ log-lines room text f short e = log-short room text short ∙ at_some _ _ f e
 pub record Lined (text : List ℕ) : Type 0 where
   pub admitted : pass admits question_line (numbers_of question_line (first_of (lines_of text))) ≡ true
   pub numbers : Fine question_line (first_of (lines_of text))
-  pub stations : All (λ s. pass admits station_line (station_numbers s) ≡ true) (row_in text)
+  pub stations : Each (λ s. pass admits station_line (station_numbers s) ≡ true) (row_in text)
   pub few : length (row_in text) ≤ most_stations
   pub shown : text ≡ line_text question_line (numbers_of question_line (first_of (lines_of text))) ++ flat_map station_text (row_in text)
 
@@ -70,7 +70,7 @@ lined text e = go (lines_of text) refl e
         record {
           admitted = ap (λ x. pass admits question_line (numbers_of question_line x)) first ∙ f.admitted;
           numbers = subst (Fine question_line) (sym first) f;
-          stations = subst (All (λ s. pass admits station_line (station_numbers s) ≡ true)) (sym row) (stations-admitted 2 (q ∷ ps) a.1);
+          stations = subst (Each (λ s. pass admits station_line (station_numbers s) ≡ true)) (sym row) (stations-admitted 2 (q ∷ ps) a.1);
           few = omega (arith, stations-few 2 (q ∷ ps) (omega arith) a.1, ap length row);
           shown =
               whole ∙ ap (λ xs. p ++ line_end ∷ xs) (stations_text 2 (q ∷ ps) a.1)
@@ -96,7 +96,7 @@ module _ (text : List ℕ) (r : Ranker) (q : Question) (next : ℕ) (local : Lis
   pub row-fault : row_fault (take count local) ≡ repeat_fault [] 0 (take count local)
   row-fault =
       let few : ltb most_stations (length (take count local)) ≡ false = le-ltb _ _ (let c : count ≤ most_stations = filled.few in omega (arith, row-long)) in
-      let zeros : zero_fault 0 (take count local) ≡ None = zero-none 0 (take count local) (subst (All (λ s. pass admits station_line (station_numbers s) ≡ true)) row_is (lined text lines_none).stations) in
+      let zeros : zero_fault 0 (take count local) ≡ None = zero-none 0 (take count local) (subst (Each (λ s. pass admits station_line (station_numbers s) ≡ true)) row_is (lined text lines_none).stations) in
       ap (λ t. or_else (refuse_if t (placeless TooManyStations)) (or_else (zero_fault 0 (take count local)) (repeat_fault [] 0 (take count local)))) few
       ∙ after_none (zero_fault 0 (take count local)) _ zeros
 
@@ -114,7 +114,7 @@ module _ (text : List ℕ) (r : Ranker) (q : Question) (next : ℕ) (local : Lis
   valid_is rows asked =
       record {
         numbers = ap (pass admits question_line) head.numbers ∙ (lined text lines_none).admitted;
-        stations = subst (All (λ s. pass admits station_line (station_numbers s) ≡ true)) row_is (lined text lines_none).stations;
+        stations = subst (Each (λ s. pass admits station_line (station_numbers s) ≡ true)) row_is (lined text lines_none).stations;
         accepted = asked;
         few = (let c : count ≤ most_stations = filled.few in omega (arith, row-long));
         distinct = sym row-fault ∙ rows;

@@ -1,6 +1,6 @@
 -- A text and its lines: what is accepted is a rendering, and a rendering is accepted.
 use Rattle.std.proofs.Common.{◌≡◌, ℕ, suc, ◌+◌, ◌≤◌, true, false, eqb, ltb, List, [], ◌∷◌, ◌++◌, length, Some, None, sym, refl, ap, ◌∙◌, ap₂, append_assoc, arith}
-use Rattle.std.specs.List.{flat_map, AllByRecursion as All}
+use Rattle.std.specs.List.{flat_map, AllByRecursion as Each}
 use Rattle.std.proofs.lemmas.Bool.{and_parts, ltb-true, ltb-false, le-ltb, ne_eqb}
 use Rattle.stations.specs.declared.fault.Code.TheVariants.{BadField, TooManyStations, OutOfRange}
 use Rattle.stations.specs.declared.station.Station.{Station}
@@ -50,7 +50,7 @@ stations_text line (p ∷ q ∷ ps) e =
     ∙ ap (λ xs. xs ++ flat_map station_text (stations_in (q ∷ ps))) (sym (line_of_station p f))
 
 -- their numbers are in range
-pub stations-admitted : (line : ℕ) (ls : List (List ℕ)) → stations_fault line ls ≡ None → All (λ s. pass admits station_line (station_numbers s) ≡ true) (stations_in ls)
+pub stations-admitted : (line : ℕ) (ls : List (List ℕ)) → stations_fault line ls ≡ None → Each (λ s. pass admits station_line (station_numbers s) ≡ true) (stations_in ls)
 stations-admitted line [] e = tt
 stations-admitted line (p ∷ []) e = tt
 stations-admitted line (p ∷ q ∷ ps) e =
@@ -71,7 +71,7 @@ stations-few line (p ∷ q ∷ ps) le e =
     omega (arith, later)
 
 -- so no station has the number 0
-pub zero-none : (i : ℕ) (row : List Station) → All (λ s. pass admits station_line (station_numbers s) ≡ true) row → zero_fault i row ≡ None
+pub zero-none : (i : ℕ) (row : List Station) → Each (λ s. pass admits station_line (station_numbers s) ≡ true) row → zero_fault i row ≡ None
 zero-none i [] h = refl
 zero-none i (s ∷ row) h =
     let first : ltb 0 s.number ≡ true = (and_parts _ _ (and_parts _ _ h.0).0).0 in
@@ -109,7 +109,7 @@ station_line_lem : (s : Station) → pass admits station_line (station_numbers s
 station_line_lem s h = line_of Number (Measure ∷ Measure ∷ Measure ∷ Measure ∷ []) (station_numbers s) refl h
 
 -- the stations' lines are accepted while there is room, and give the stations back
-pub stations-accepted : (line : ℕ) (row : List Station) → line + length row ≤ suc (suc most_stations) → All (λ s. pass admits station_line (station_numbers s) ≡ true) row → stations_fault line (lines_of (flat_map station_text row)) ≡ None
+pub stations-accepted : (line : ℕ) (row : List Station) → line + length row ≤ suc (suc most_stations) → Each (λ s. pass admits station_line (station_numbers s) ≡ true) row → stations_fault line (lines_of (flat_map station_text row)) ≡ None
 stations-accepted line [] room h = refl
 stations-accepted line (s ∷ row) room h =
     let l = station_line_lem s h.0 in
@@ -121,7 +121,7 @@ stations-accepted line (s ∷ row) room h =
     ∙ ap (λ x. or_else (refuse_if x (fault TooManyStations line 0)) (or_else (line_fault line station_line bytes) (stations_fault (suc line) (two.0 ∷ two.1)))) t
     ∙ after_none (line_fault line station_line bytes) _ (fine-none line station_line bytes l.fine) ∙ later
 
-pub stations-back : (row : List Station) → All (λ s. pass admits station_line (station_numbers s) ≡ true) row → stations_in (lines_of (flat_map station_text row)) ≡ row
+pub stations-back : (row : List Station) → Each (λ s. pass admits station_line (station_numbers s) ≡ true) row → stations_in (lines_of (flat_map station_text row)) ≡ row
 stations-back [] h = refl
 stations-back (s ∷ row) h =
     let l = station_line_lem s h.0 in

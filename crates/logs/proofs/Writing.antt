@@ -2,7 +2,7 @@
 use Rattle.std.proofs.Common.{◌≡◌, ℕ, ◌^◌, ◌<◌, ◌≤◌, true, false, ◌&&◌, eqb, ltb, ◌⊎◌, List, [], ◌∷◌, length, get_or, decimal, refl, ap, ◌∙◌, ap₂, inl, inr, arith}
 use Rattle.std.specs.Char.{is_ascii_digit}
 use Rattle.std.specs.Str.{all_ascii_digits}
-use Rattle.std.specs.List.{AllByRecursion as All}
+use Rattle.std.specs.List.{AllByRecursion as Each}
 use Rattle.std.proofs.lemmas.Fmt.{decimal-digits_value, digits_decimal, digits_value-decimal, decimal_nonempty, length-decimal-le, first_decimal, decimal_digit}
 use Rattle.std.proofs.lemmas.Str.Parse.{digits_value_short}
 use Rattle.std.proofs.lemmas.Bool.{false≢true, and_parts, and_from, leb-true, ltb-true, eqb-true, ne_eqb, not-true, cases_eq}
@@ -127,12 +127,12 @@ spells-written [] ns h = refl
 spells-written (k ∷ ks) [] h = refl
 spells-written (k ∷ ks) (n ∷ ns) h = let p = and_parts _ _ h in and_from _ _ (written k n p.0).spelled (spells-written ks ns p.1)
 
-pub commas_written : (ks : List FieldKind) (ns : List ℕ) → pass admits ks ns ≡ true → All (Free comma) (paired writing ks ns)
+pub commas_written : (ks : List FieldKind) (ns : List ℕ) → pass admits ks ns ≡ true → Each (Free comma) (paired writing ks ns)
 commas_written [] ns h = tt
 commas_written (k ∷ ks) [] h = tt
 commas_written (k ∷ ks) (n ∷ ns) h = let p = and_parts _ _ h in ((written k n p.0).no-comma, commas_written ks ns p.1)
 
-pub ends-written : (ks : List FieldKind) (ns : List ℕ) → pass admits ks ns ≡ true → All (Free line_end) (paired writing ks ns)
+pub ends-written : (ks : List FieldKind) (ns : List ℕ) → pass admits ks ns ≡ true → Each (Free line_end) (paired writing ks ns)
 ends-written [] ns h = tt
 ends-written (k ∷ ks) [] h = tt
 ends-written (k ∷ ks) (n ∷ ns) h = let p = and_parts _ _ h in ((written k n p.0).no_end, ends-written ks ns p.1)

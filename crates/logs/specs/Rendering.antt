@@ -1,6 +1,6 @@
 -- The one text of a ranking, a question and a row of stations.
 use Rattle.std.specs.Prelude.{◌≡◌, ℕ, ◌+◌, ◌≤◌, true, List, [], ◌∷◌, ◌++◌, length, None, slice_index}
-use Rattle.std.specs.List.{flat_map, AllByRecursion}
+use Rattle.std.specs.List.{flat_map, AllByRecursion as Each}
 use Rattle.stations.specs.declared.measures.Measures.{Measures}
 use Rattle.stations.specs.declared.station.Station.{Station}
 use Rattle.stations.specs.declared.question.Question.{Question}
@@ -56,7 +56,7 @@ rendering r q row = line_text question_line (question_numbers r q) ++ flat_map (
 -- what a log can hold: numbers in range, an accepted question, few enough stations, no number twice, and a text that is not too long
 pub record Valid (r : Ranker) (q : Question) (row : List Station) : Type 0 where
   pub numbers : pass admits question_line (question_numbers r q) ≡ true
-  pub stations : AllByRecursion (λ s. pass admits station_line (station_numbers s) ≡ true) row
+  pub stations : Each (λ s. pass admits station_line (station_numbers s) ≡ true) row
   pub accepted : question_fault q ≡ None
   pub few : length row ≤ most_stations
   pub distinct : repeat_fault [] 0 row ≡ None
