@@ -1,10 +1,10 @@
 /* Asks a question of a stored book: ask BOOK QUESTION
  *
  * Build it in the repository's root folder:
- *     rt staticlib panel
- *     cc -O2 -Iinclude examples/ask.c target/staticlib/libpanel.a -o target/ask
+ *     (cd crates/panel && rt lib)
+ *     mkdir -p target && cc -O2 -Iinclude examples/ask.c crates/panel/out/libpanel.a -o target/ask
  * and run it on the book that bind writes:
- *     rt check bind && target/bin/bind < examples/well.log > target/well.book
+ *     (cd crates/bind && rt run < ../../examples/well.log > ../../target/well.book)
  *     target/ask target/well.book S,2,0,0,0,0,30000,65535,65535,65535,4,1,2,1
  */
 #include <picker.h>

@@ -1,6 +1,6 @@
 /* The station picker for C.
  *
- * Link target/staticlib/libpanel.a, which `rt staticlib panel` makes. Nothing is kept between calls, nothing is allocated,
+ * Link crates/panel/out/libpanel.a, which `rt lib` makes in crates/panel. Nothing is kept between calls, nothing is allocated,
  * and a call may run on any thread. Leave it 512 KB of stack:
  * picker_pick and picker_ask take about 240 KB, the others less than 80 KB (measured, not proved).
  *
