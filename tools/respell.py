@@ -32,6 +32,7 @@ BY_HAND = {
     "is-halted": "is_halted_lem",
     "is-searching": "is_searching_lem",
     "lines-of": "lines_of_lem",
+    "meter-from": "metered_from",
     "or-else": "or_else_lem",
     "station-line": "station_line_lem",
     "up-to": "up_to_lem",

@@ -17,13 +17,13 @@ module _ {S R : Type 0} (book : S → Book) (meter : S → ℕ) (score : R → M
   made_more calls r r' made e call is stands m p = record {
     history = made.history ++ e ∷ [];
     stands = stands;
-    meter_from = m;
+    metered_from = m;
     calls_are = map_push call_of made.history e ∙ ap (λ cs. cs ++ call_of e ∷ []) made.calls_are ∙ ap (λ x. calls ++ x ∷ []) (sym is);
     produces = p;
   }
 
   pub made_none : (m : ℕ) (r : Run S R) → Produces book meter score rank b [] nothing m r → Made book meter score rank b [] r
-  made_none m r p = record { history = []; stands = nothing; meter_from = m; calls_are = refl; produces = p }
+  made_none m r p = record { history = []; stands = nothing; metered_from = m; calls_are = refl; produces = p }
 
   pub made-next : (calls : List Call) (i : ℕ) (d : Call) (r : Run S R) → i < length calls → Made book meter score rank b (take i calls ++ get_or calls i d ∷ []) r → Made book meter score rank b (take (i + 1) calls) r
   made-next calls i d r l h = subst (λ cs. Made book meter score rank b cs r) (sym (take_more calls i d l)) h

@@ -28,9 +28,9 @@ module _ {S R : Type 0} (book : S → Book) (meter : S → ℕ) (score : R → M
   pub record Made : Type 0 where
     pub history : List Event
     pub stands : Standing
-    pub meter_from : ℕ
+    pub metered_from : ℕ
     pub calls_are : map call_of history ≡ calls
-    pub produces : Produces book meter score rank b history stands meter_from r
+    pub produces : Produces book meter score rank b history stands metered_from r
 
   -- and what is promised of the question that stands holds, with what the run has listed
   pub record Played : Type 0 where
