@@ -31,6 +31,7 @@ fn read_book(rt: &HostRuntime) -> anyhow::Result<Vec<u8>> {
     Ok(book)
 }
 
+// `pick`, `ask`, `scan` and `bind` share the lines around the call; a crate for them would be longer than they are.
 fn run(rt: &HostRuntime) -> anyhow::Result<Report> {
     let book = read_book(rt)?;
     let mut text = Vec::new(rt.alloc());

@@ -10,6 +10,7 @@ const MOST_INPUT: u64 = 65_537;
 // Room for the most pages of a row's book, 105 of 256 bytes.
 const MOST_BOOK: usize = 26_880;
 
+// `pick`, `ask`, `scan` and `bind` share the lines around the call; a crate for them would be longer than they are.
 fn main(rt: HostRuntime) -> anyhow::Result<()> {
     let mut text = Vec::new(rt.alloc());
     rt.stdin().take(MOST_INPUT).read_to_end(&mut text)?;
@@ -17,8 +18,7 @@ fn main(rt: HostRuntime) -> anyhow::Result<()> {
     match bind_log(text.as_slice(), book.as_mut_slice()) {
         Ok(n) => book.truncate(n),
         Err(fault) => {
-            let code = fault.code.number();
-            eprintln!(rt; "refused,{},{},{}", code, fault.first, fault.second)?;
+            eprintln!(rt; "refused,{fault}")?;
             return Err(anyhow!("the log is refused"));
         }
     }

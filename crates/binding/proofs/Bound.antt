@@ -1,6 +1,5 @@
 -- From what was read and written to what is bound.
-use Rattle.std.proofs.Common.{◌≡◌, ℕ, ◌-◌, List, length, take, Some, Ok, Err, Result, subst, inr}
-use native.Mathlib.Nat.{sub-zero}
+use Rattle.std.proofs.Common.{◌≡◌, ℕ, List, length, take, Some, Ok, Err, Result, subst, inr}
 use Rattle.stations.specs.declared.fault.Fault.{Fault}
 use Rattle.stations.specs.declared.station.Station.{Station}
 use Rattle.stations.specs.Rows.{most_stations}
@@ -22,9 +21,6 @@ module _ {text : List ℕ} {before after : List Station} {log : Log} (a : Accept
     fits = a.valid.few;
   }
 
-  bound_by : (work work' : List CodeKey) (was is : List ℕ) → length work ≡ most_stations → (r : Result ℕ Fault) → Writes (take log.count after) work work' was is r → Binds text was is r
-  bound_by work work' was is room (Ok n) w = (rendered, work, work', w.1)
-  bound_by work work' was is room (Err f) w = (inr (rendered, subst (λ n. write_fault (take log.count after) n (length was) ≡ Some f) room w.0), w.2)
-
-  pub bound : (work work' : List CodeKey) (was is : List ℕ) → length work ≡ most_stations → (r : Result ℕ Fault) → Writes (take (log.count - 0) after) work work' was is r → Binds text was is r
-  bound work work' was is room r w = bound_by work work' was is room r (subst (λ n. Writes (take n after) work work' was is r) (sub-zero log.count) w)
+  pub bound : (work work' : List CodeKey) (was is : List ℕ) → length work ≡ most_stations → (r : Result ℕ Fault) → Writes (take log.count after) work work' was is r → Binds text was is r
+  bound work work' was is room (Ok n) w = (rendered, work, work', w.1)
+  bound work work' was is room (Err f) w = (inr (rendered, subst (λ n. write_fault (take log.count after) n (length was) ≡ Some f) room w.0), w.2)

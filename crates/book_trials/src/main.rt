@@ -1,42 +1,20 @@
 #![tactic(auto)]
 // Loads every book of standard input and prints its pages, and prints the pages of rolls of telling lengths. A book stands behind a line with its length.
 use books::{Child, Entry};
+use frames::Frames;
 use rolls::Roll;
 use sources::{Page, PageSource};
-use stations::{Fault, Measures, Station};
+use stations::{Code, Fault, Measures, Station};
 use std::io::Read;
 use stored::Stored;
 
-// The length that the first line says, and where the book begins behind it.
-fn frame(input: &[u8]) -> Option<(usize, usize)> {
-    let mut len = 0usize;
-    for i in 0..input.len() {
-        let b = input[i];
-        if b == b'\n' {
-            return Some((len, i + 1));
-        }
-        if b < b'0' || b > b'9' {
-            return None;
-        }
-        len = len.checked_mul(10)?.checked_add((b - b'0') as usize)?;
-    }
-    None
-}
-
-// The first book of the input, and what follows it.
-fn next_book(input: &[u8]) -> Option<(&[u8], &[u8])> {
-    let (len, start) = frame(input)?;
-    let end = start.checked_add(len)?;
-    if end > input.len() {
-        return None;
-    }
-    Some((&input[start..end], &input[end..]))
-}
-
+// Both trials have these lines: a crate for them would be longer.
 fn print_fault(rt: &HostRuntime, fault: Fault) -> anyhow::Result<()> {
-    let code = fault.code.number();
-    let first = fault.first;
-    let second = fault.second;
+    let Fault {
+        code,
+        first,
+        second,
+    } = fault;
     println!(rt; "fault {code} at {first}, {second}")?;
     Ok(())
 }
@@ -65,7 +43,7 @@ fn print_entry(rt: &HostRuntime, entry: Entry) -> anyhow::Result<()> {
 fn print_page(rt: &HostRuntime, number: u32, page: &Page) -> anyhow::Result<()> {
     let level = page.level;
     print!(rt; "{number}: level {level}")?;
-    for entry in &page.entries[0..page.len] {
+    for entry in page.entries.as_slice() {
         print_entry(rt, *entry)?;
     }
     println!(rt)?;
@@ -79,7 +57,7 @@ fn print_pages<S: PageSource + Drop>(rt: &HostRuntime, mut source: S) -> anyhow:
             Ok(page) => print_page(rt, number, &page)?,
             Err(fault) => {
                 print_fault(rt, fault)?;
-                if fault.code.number() == 17 {
+                if fault.code == Code::PageNumber {
                     break;
                 }
             }
@@ -107,17 +85,12 @@ fn print_book<'a>(rt: &HostRuntime, former: &'a [u8], bytes: &'a [u8]) -> anyhow
 }
 
 // The books of the input, one after the other.
-fn print_books<'a>(rt: &HostRuntime, input: &'a [u8]) -> anyhow::Result<()> {
-    let mut former = &input[0..0];
-    let mut rest = input;
-    for _ in 0..input.len() {
-        let Some((bytes, later)) = next_book(rest) else {
-            break;
-        };
+fn print_books(rt: &HostRuntime, input: &[u8]) -> anyhow::Result<()> {
+    let mut former = &input[..0];
+    for bytes in Frames::new(input) {
         if print_book(rt, former, bytes)? {
             former = bytes;
         }
-        rest = later;
     }
     Ok(())
 }

@@ -15,3 +15,10 @@ pub enum Entry {
     Page(Child),
     Station(Station),
 }
+
+// What stands where no entry has been put; nobody reads it.
+impl Default for Entry {
+    fn default() -> Entry {
+        Entry::Station(Station::default())
+    }
+}

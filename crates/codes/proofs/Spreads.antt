@@ -1,9 +1,8 @@
 -- Laws of spreading: the table's rule at each entry, a number spread by its two bytes, and how large it gets.
 use Rattle.std.proofs.Common.{◌≡◌, ℕ, zero, suc, ◌+◌, ◌*◌, ◌/◌, ◌%◌, ◌^◌, ◌<◌, List, map, get_or, sym, refl, ap, ◌∙◌, mul_assoc, mul_comm, pow-suc, add-one, arith}
 use native.Mathlib.Nat.{div-div-eq-div-mul}
-use lib.Bits.{bit_and}
 use Rattle.std.specs.List.{range_with_len}
-use Rattle.std.proofs.lemmas.Nat.{and_mask, mod-pow-add}
+use Rattle.std.proofs.lemmas.Nat.{mod-pow-add}
 use Rattle.std.proofs.lemmas.List.FromFn.{get_or-map-range_with_len}
 use Rattle.codes.specs.Codes.{spread}
 
@@ -47,7 +46,5 @@ spread-small zero x = omega arith
 spread-small (suc n) x = omega (arith, spread-small n (x / 2), pow-suc 16 n)
 
 -- a number of two bytes, by its low byte and its high byte
-pub spread-bytes : (x : ℕ) → spread 16 x ≡ spread 8 (bit_and x 255) + spread 8 (x / 256) * 2 ^ 32
-spread-bytes x =
-    let low : spread 8 (bit_and x 255) ≡ spread 8 x = ap (spread 8) (and_mask x 8) ∙ spread-low 8 x in
-    omega (arith, spread-split 8 8 16 x refl, low)
+pub spread-bytes : (x : ℕ) → spread 16 x ≡ spread 8 (x % 256) + spread 8 (x / 256) * 2 ^ 32
+spread-bytes x = omega (arith, spread-split 8 8 16 x refl, spread-low 8 x)

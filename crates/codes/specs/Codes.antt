@@ -28,6 +28,7 @@ pub record Interleaved (p : Measures) (code : ℕ) : Type 0 where
 abbrev pub Alone : Measures → ℕ → Type 0
 Alone p code = (q : Measures) → Ordinary q → code_of q ≡ code → q ≡ p
 
+-- the four measures in turn
 abbrev measures : ℕ → ℕ → ℕ → ℕ → Measures
 measures a b c d = record { m1 = a; m2 = b; m3 = c; m4 = d }
 

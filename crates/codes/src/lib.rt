@@ -12,7 +12,7 @@ use table::SPREAD;
 fn spread_byte(byte: u8) -> u32
     ensures { result ≡ spread 8 byte }
 {
-    SPREAD[byte as usize]
+    SPREAD[usize::from(byte)]
 }
 
 // Bit j of the measure goes to bit 4j.
@@ -20,9 +20,8 @@ fn spread_measure(measure: u16) -> u64
     ensures value { result ≡ spread 16 measure }
     ensures small { 15 * result < 2 ^ 64 }
 {
-    let low = spread_byte((measure & 255) as u8);
-    let high = spread_byte((measure >> 8) as u8);
-    low as u64 + ((high as u64) << 32)
+    let [high, low] = measure.to_be_bytes();
+    u64::from(spread_byte(low)) + (u64::from(spread_byte(high)) << 32)
 }
 
 // The bits of the four measures in turn, so that stations that are near in all four measures tend to have near codes.
@@ -39,14 +38,15 @@ pub fn code(at: Measures) -> u64
 }
 
 // The code of the worst measures, every bit set.
+#[tactic(auto, unfolding(crate::specs::Codes::spread))]
 pub fn last_code() -> u64
     ensures value { result ≡ 2 ^ 64 - 1 }
     ensures worked { Worked }
 {
     code(Measures {
-        m1: 65535,
-        m2: 65535,
-        m3: 65535,
-        m4: 65535,
+        m1: u16::MAX,
+        m2: u16::MAX,
+        m3: u16::MAX,
+        m4: u16::MAX,
     })
 }

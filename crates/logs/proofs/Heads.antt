@@ -1,17 +1,18 @@
 -- The question's line, and the numbers of a line as what they stand for.
-use Rattle.std.proofs.Common.{◌≡◌, ℕ, zero, suc, ◌+◌, ◌<◌, List, [], ◌∷◌, ◌++◌, length, get_or, drop, Some, None, sym, ap, ◌∙◌, add-one, arith}
+use Rattle.std.proofs.Common.{◌≡◌, ℕ, zero, suc, ◌+◌, ◌<◌, List, [], ◌∷◌, ◌++◌, length, get_or, drop, sym, ap, ◌∙◌, add-one, arith}
 use Rattle.std.proofs.lemmas.List.{drop_more, drop_all}
-use Rattle.stations.specs.declared.fault.Fault.{Fault}
 use Rattle.stations.specs.declared.question.Question.{Question}
 use Rattle.rankings.specs.declared.weights.Ranker.{Ranker}
 use Rattle.logs.specs.Pieces.{lines_of, line_end}
-use Rattle.logs.specs.Lines.{Found, Unended}
+use Rattle.logs.specs.Lines.{Found}
 use Rattle.logs.specs.Fields.{question_line}
 use Rattle.logs.specs.Checks.{line_fault, lines_fault, stations_fault, numbers_of, question_of, station_of, first_of, later_of}
 use Rattle.logs.specs.Rendering.{letter_of, weights_of, weight_numbers, weights_at, measure_numbers, question_numbers, station_numbers}
+use Rattle.logs.specs.Walks.{Taken, first_fault}
 use Rattle.logs.specs.Reading.{Headed}
-use Rattle.logs.proofs.Cuts.{some_piece}
-use Rattle.logs.proofs.Verdicts.{after_none, at_some}
+use Rattle.logs.specs.declared.field.FieldKind.{FieldKind}
+use Rattle.logs.proofs.Cuts.{cut, some_piece}
+use Rattle.logs.proofs.Verdicts.{after_none}
 
 -- n numbers from place i on, read off one by one
 abbrev pub read_off : ℕ → ℕ → List ℕ → List ℕ
@@ -37,25 +38,20 @@ question-numbers r q ns e l w is =
     p ∙ read_off-all 14 0 ns (sym e)
 
 -- a line with an end is followed by another, which may be empty
-pub found-two : (text : List ℕ) (start : ℕ) (bytes : List ℕ) (fields end : ℕ) → Found text start bytes fields end → (q : List ℕ) × (ps : List (List ℕ)) × (lines_of (drop (end + 1) text) ≡ q ∷ ps) × (lines_of (drop start text) ≡ bytes ∷ q ∷ ps)
-found-two text start bytes fields end f =
-    let h = some_piece line_end (drop (end + 1) text) in
-    (h.0, h.1, h.2, f.lines ∙ ap (λ xs. bytes ∷ xs) h.2)
+pub found-two : {text bytes rest : List ℕ} → Found text bytes rest → (q : List ℕ) × (ps : List (List ℕ)) × (lines_of rest ≡ q ∷ ps) × (lines_of text ≡ bytes ∷ q ∷ ps)
+found-two {text} {bytes} {rest} f =
+    let h = some_piece line_end rest in
+    (h.0, h.1, h.2, ap lines_of f.whole ∙ cut line_end bytes rest f.free ∙ ap (λ xs. bytes ∷ xs) h.2)
 
-pub head_fault : (text bytes : List ℕ) (fields end : ℕ) (f : Fault) → Found text 0 bytes fields end → line_fault 1 question_line bytes ≡ Some f → lines_fault (lines_of text) ≡ Some f
-head_fault text bytes fields end f found e =
-    let h = found-two text 0 bytes fields end found in
-    ap lines_fault h.3 ∙ at_some _ _ f e
+-- so the first line of the text is the one that was found
+pub first_found : (line : ℕ) (kinds : List FieldKind) {text bytes rest : List ℕ} → Found text bytes rest → first_fault line kinds (lines_of text) ≡ line_fault line kinds bytes
+first_found line kinds found = ap (first_fault line kinds) (found-two found).3
 
-pub headed : (text bytes : List ℕ) (fields end : ℕ) (ns : List ℕ) (r : Ranker) (q : Question) → Found text 0 bytes fields end → line_fault 1 question_line bytes ≡ None → ns ≡ numbers_of question_line bytes → question_numbers r q ≡ ns → Headed text r q (end + 1)
-headed text bytes fields end ns r q found e is qs =
-    let h = found-two text 0 bytes fields end found in
+pub headed : {text ns rest : List ℕ} (r : Ranker) (q : Question) → Taken 1 question_line text ns rest → question_numbers r q ≡ ns → Headed text r q rest
+headed r q taken qs =
+    let h = found-two taken.found in
     record {
-      within = omega (arith, found.ends);
-      decides = ap lines_fault h.3 ∙ after_none (line_fault 1 question_line bytes) (stations_fault 2 (h.0 ∷ h.1)) e ∙ ap (stations_fault 2) (sym h.2);
-      later = ap later_of found.lines;
-      numbers = qs ∙ is ∙ ap (λ ls. numbers_of question_line (first_of ls)) (sym found.lines);
+      decides = ap lines_fault h.3 ∙ after_none (line_fault 1 question_line taken.bytes) (stations_fault 2 (h.0 ∷ h.1)) taken.accepted ∙ ap (stations_fault 2) (sym h.2);
+      later = ap later_of h.3 ∙ sym h.2;
+      numbers = qs ∙ taken.says ∙ ap (λ ls. numbers_of question_line (first_of ls)) (sym h.3);
     }
-
-pub headless : (text : List ℕ) → Unended text 0 → lines_fault (lines_of text) ≡ lines_fault (text ∷ [])
-headless text e = ap lines_fault e

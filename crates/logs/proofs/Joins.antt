@@ -1,28 +1,10 @@
 -- Cutting and joining undo each other.
-use Rattle.std.proofs.Common.{◌≡◌, ℕ, Bool, true, false, eqb, List, [], ◌∷◌, sym, refl, ap, ◌∙◌}
+use Rattle.std.proofs.Common.{◌≡◌, ℕ, false, eqb, List, [], ◌∷◌, ap, ◌∙◌}
 use Rattle.std.specs.List.{AllByRecursion as Each}
 use Rattle.std.proofs.ByRecursion.{All-append}
-use Rattle.std.proofs.lemmas.Bool.{eqb-true}
 use Rattle.logs.specs.Pieces.{pieces, join}
 use Rattle.logs.specs.Lines.{Free}
-use Rattle.logs.proofs.Cuts.{cut, whole, some_piece}
-
--- a byte before the first part is a byte before the text
-join-onto : (sep b : ℕ) (p : List ℕ) (ps : List (List ℕ)) → join sep ((b ∷ p) ∷ ps) ≡ b ∷ join sep (p ∷ ps)
-join-onto sep b p [] = refl
-join-onto sep b p (q ∷ ps) = refl
-
-pub join-pieces : (sep : ℕ) (bs : List ℕ) → join sep (pieces sep bs) ≡ bs
-join-pieces sep [] = refl
-join-pieces sep (b ∷ bs) = go (eqb b sep) refl (some_piece sep bs) (join-pieces sep bs)
-  where
-    go : (t : Bool) → eqb b sep ≡ t → ((p : List ℕ) × (ps : List (List ℕ)) × (pieces sep bs ≡ p ∷ ps)) → join sep (pieces sep bs) ≡ bs → join sep (pieces sep (b ∷ bs)) ≡ b ∷ bs
-    go true e h ih =
-        let on : join sep (h.0 ∷ h.1) ≡ bs = ap (join sep) (sym h.2) ∙ ih in
-        rw (e, h.2) (ap (λ xs. sep ∷ xs) on ∙ ap (λ x. x ∷ bs) (sym (eqb-true b sep e)))
-    go false e h ih =
-        let on : join sep (h.0 ∷ h.1) ≡ bs = ap (join sep) (sym h.2) ∙ ih in
-        rw (e, h.2) (join-onto sep b h.0 h.1 ∙ ap (λ xs. b ∷ xs) on)
+use Rattle.logs.proofs.Cuts.{cut, whole}
 
 -- parts that hold no separator come back
 pub pieces-join : (sep : ℕ) (p : List ℕ) (ps : List (List ℕ)) → Free sep p → Each (Free sep) ps → pieces sep (join sep (p ∷ ps)) ≡ p ∷ ps

@@ -1,7 +1,5 @@
 pub mod Spelling
-pub mod Digits
 pub mod Cuts
-pub mod Scans
 pub mod Fields
 pub mod Ranges
 pub mod Verdicts

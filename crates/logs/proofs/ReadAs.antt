@@ -28,12 +28,12 @@ module _ {text : List ℕ} {before after : List Station} {log : Log} (a : Accept
   held = record { ranker = log.ranking; question = log.question; row = take log.count after; valid = a.valid; shown = a.shown; fits = omega arith }
 
   -- whatever is made of the text is made of the log and the first stations of the row
-  pub read_as : {A : Type 0} (f : (Measures → ℕ) → Question → List Station → A) → f (score_in text) (question_in text) (row_in text) ≡ f (ranker_score log.ranking) log.question (take (log.count - 0) after)
+  pub read_as : {A : Type 0} (f : (Measures → ℕ) → Question → List Station → A) → f (score_in text) (question_in text) (row_in text) ≡ f (ranker_score log.ranking) log.question (take log.count after)
   read_as f =
       let s : Says held = says _ text held in
-      let row : row_in text ≡ take (log.count - 0) after = s.row ∙ ap (λ n. take n after) (sym (sub-zero log.count)) in
+      let row : row_in text ≡ take log.count after = s.row in
       λ i. f (s.score i) (s.question i) (row i)
 
   -- the row can be read as a book
-  pub row-sound : row_fault (take (log.count - 0) after) ≡ None
-  row-sound = ap (λ n. row_fault (take n after)) (sub-zero log.count) ∙ valid-row log.ranking log.question (take log.count after) a.valid
+  pub row-sound : row_fault (take log.count after) ≡ None
+  row-sound = valid-row log.ranking log.question (take log.count after) a.valid

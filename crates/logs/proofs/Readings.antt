@@ -1,7 +1,7 @@
 -- What a log's text is refused for, check by check, and what an accepted one holds.
-use Rattle.std.proofs.Common.{◌≡◌, ℕ, ◌<◌, ◌≤◌, true, false, ltb, List, [], ◌∷◌, ◌++◌, length, take, Some, None, Option, sym, refl, ap, ◌∙◌, subst, ap₂, append_assoc, arith}
+use Rattle.std.proofs.Common.{◌≡◌, ℕ, ◌<◌, ◌≤◌, true, false, ltb, List, [], ◌∷◌, ◌++◌, length, Some, None, Option, sym, refl, ap, ◌∙◌, subst, ap₂, append_assoc, arith}
 use Rattle.std.specs.List.{flat_map, AllByRecursion as Each}
-use Rattle.std.proofs.lemmas.List.{length-take-le}
+use Rattle.std.proofs.lemmas.List.Splits.{join_with_byte-slice_split}
 use Rattle.std.proofs.lemmas.Bool.{le-ltb, lt-ltb}
 use Rattle.stations.specs.declared.fault.Fault.{Fault}
 use Rattle.stations.specs.declared.fault.Code.TheVariants.{TextTooLong, ShortBuffer, TooManyStations}
@@ -17,7 +17,6 @@ use Rattle.logs.specs.Checks.{most_bytes, log_fault, line_fault, lines_fault, qu
 use Rattle.logs.specs.Rendering.{rendering, line_text, station_numbers, Valid}
 use Rattle.logs.specs.Reading.{Headed, Filled}
 use Rattle.logs.proofs.Verdicts.{neither, after_none, at_some, Fine, fine-from}
-use Rattle.logs.proofs.Joins.{join-pieces}
 use Rattle.logs.proofs.Texts.{line_written, station_text, stations_text, stations-admitted, stations-few, zero-none}
 
 -- what is checked after the lines
@@ -65,7 +64,7 @@ lined text e = go (lines_of text) refl e
         let f = fine-from 1 question_line p a.0 in
         let row : row_in text ≡ stations_in (q ∷ ps) = ap (λ ls. stations_in (later_of ls)) is in
         let first : first_of (lines_of text) ≡ p = ap first_of is in
-        let whole : text ≡ p ++ line_end ∷ join line_end (q ∷ ps) = sym (join-pieces line_end text) ∙ ap (join line_end) is in
+        let whole : text ≡ p ++ line_end ∷ join line_end (q ∷ ps) = sym (join_with_byte-slice_split line_end text) ∙ ap (join line_end) is in
         let front : p ++ line_end ∷ [] ≡ line_text question_line (numbers_of question_line p) = ap (λ xs. xs ++ line_end ∷ []) (sym (line_written question_line p f)) in
         record {
           admitted = ap (λ x. pass admits question_line (numbers_of question_line x)) first ∙ f.admitted;
@@ -79,44 +78,41 @@ lined text e = go (lines_of text) refl e
         }
 
 -- what the reader has in hand once both kinds of line are read
-module _ (text : List ℕ) (r : Ranker) (q : Question) (next : ℕ) (local : List Station) (count : ℕ) (short : length text ≤ most_bytes) (head : Headed text r q next) (filled : Filled text next local count) where
+module _ {text : List ℕ} {r : Ranker} {q : Question} {rest : List ℕ} {row : List Station} (short : length text ≤ most_bytes) (head : Headed text r q rest) (filled : Filled rest row) where
   pub lines_none : lines_fault (lines_of text) ≡ None
   lines_none = head.decides ∙ filled.decides
 
-  pub row_is : row_in text ≡ take count local
+  pub row_is : row_in text ≡ row
   row_is = ap stations_in head.later ∙ sym filled.stations
 
   pub question_is : question_in text ≡ q
   question_is = ap question_of (sym head.numbers)
 
-  pub row-long : length (take count local) ≡ count
-  row-long = let c : count ≤ most_stations = filled.few in length-take-le count local (omega (arith, filled.places))
-
   -- of the checks of a row only that of repeats is left
-  pub row-fault : row_fault (take count local) ≡ repeat_fault [] 0 (take count local)
+  pub row-fault : row_fault row ≡ repeat_fault [] 0 row
   row-fault =
-      let few : ltb most_stations (length (take count local)) ≡ false = le-ltb _ _ (let c : count ≤ most_stations = filled.few in omega (arith, row-long)) in
-      let zeros : zero_fault 0 (take count local) ≡ None = zero-none 0 (take count local) (subst (Each (λ s. pass admits station_line (station_numbers s) ≡ true)) row_is (lined text lines_none).stations) in
-      ap (λ t. or_else (refuse_if t (placeless TooManyStations)) (or_else (zero_fault 0 (take count local)) (repeat_fault [] 0 (take count local)))) few
-      ∙ after_none (zero_fault 0 (take count local)) _ zeros
+      let few : ltb most_stations (length row) ≡ false = le-ltb _ _ filled.few in
+      let zeros : zero_fault 0 row ≡ None = zero-none 0 row (subst (Each (λ s. pass admits station_line (station_numbers s) ≡ true)) row_is (lined text lines_none).stations) in
+      ap (λ t. or_else (refuse_if t (placeless TooManyStations)) (or_else (zero_fault 0 row) (repeat_fault [] 0 row))) few
+      ∙ after_none (zero_fault 0 row) _ zeros
 
-  pub log-after : (room : ℕ) → log_fault room text ≡ or_else (row_fault (take count local)) (or_else (question_fault q) (refuse_if (ltb room count) (placeless ShortBuffer)))
+  pub log-after : (room : ℕ) → log_fault room text ≡ or_else (row_fault row) (or_else (question_fault q) (refuse_if (ltb room (length row)) (placeless ShortBuffer)))
   log-after room =
       log-short room text short ∙ after_none (lines_fault (lines_of text)) (after_lines room text) lines_none
       ∙ (λ i. or_else (repeat_fault [] 0 (row_is i)) (or_else (question_fault (question_is i)) (refuse_if (ltb room (length (row_is i))) (placeless ShortBuffer))))
-      ∙ ap₂ (λ a n. or_else a (or_else (question_fault q) (refuse_if (ltb room n) (placeless ShortBuffer)))) (sym row-fault) row-long
+      ∙ ap (λ a. or_else a (or_else (question_fault q) (refuse_if (ltb room (length row)) (placeless ShortBuffer)))) (sym row-fault)
 
-  pub shown_is : text ≡ rendering r q (take count local)
+  pub shown_is : text ≡ rendering r q row
   unfolding rendering
   shown_is = (lined text lines_none).shown ∙ ap₂ (λ ns ss. line_text question_line ns ++ flat_map station_text ss) (sym head.numbers) row_is
 
-  pub valid_is : row_fault (take count local) ≡ None → question_fault q ≡ None → Valid r q (take count local)
+  pub valid_is : row_fault row ≡ None → question_fault q ≡ None → Valid r q row
   valid_is rows asked =
       record {
         numbers = ap (pass admits question_line) head.numbers ∙ (lined text lines_none).admitted;
         stations = subst (Each (λ s. pass admits station_line (station_numbers s) ≡ true)) row_is (lined text lines_none).stations;
         accepted = asked;
-        few = (let c : count ≤ most_stations = filled.few in omega (arith, row-long));
+        few = filled.few;
         distinct = sym row-fault ∙ rows;
         short = omega (arith, ap length shown_is);
       }

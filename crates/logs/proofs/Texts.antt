@@ -1,6 +1,7 @@
 -- A text and its lines: what is accepted is a rendering, and a rendering is accepted.
 use Rattle.std.proofs.Common.{◌≡◌, ℕ, suc, ◌+◌, ◌≤◌, true, false, eqb, ltb, List, [], ◌∷◌, ◌++◌, length, Some, None, sym, refl, ap, ◌∙◌, ap₂, append_assoc, arith}
 use Rattle.std.specs.List.{flat_map, AllByRecursion as Each}
+use Rattle.std.proofs.lemmas.List.Splits.{join_with_byte-slice_split}
 use Rattle.std.proofs.lemmas.Bool.{and_parts, ltb-true, ltb-false, le-ltb, ne_eqb}
 use Rattle.stations.specs.declared.fault.Code.TheVariants.{BadField, TooManyStations, OutOfRange}
 use Rattle.stations.specs.declared.station.Station.{Station}
@@ -14,14 +15,14 @@ use Rattle.logs.specs.Rendering.{line_text, station_numbers}
 use Rattle.logs.specs.declared.field.FieldKind.{FieldKind}
 use Rattle.logs.specs.declared.field.FieldKind.TheVariants.{Number, Measure}
 use Rattle.logs.proofs.Cuts.{cut, some_piece}
-use Rattle.logs.proofs.Joins.{join-pieces, pieces-join, join_free}
+use Rattle.logs.proofs.Joins.{pieces-join, join_free}
 use Rattle.logs.proofs.Writing.{writes_read, reads-written, spells-written, commas_written, ends-written}
 use Rattle.logs.proofs.Heads.{station-numbers}
 use Rattle.logs.proofs.Verdicts.{neither, passed, after_none, Fine, fine-from, fine-none, length-paired}
 
 -- an accepted line is what is written of its numbers
 pub line_written : (ks : List FieldKind) (bytes : List ℕ) → Fine ks bytes → join comma (paired writing ks (numbers_of ks bytes)) ≡ bytes
-line_written ks bytes f = ap (join comma) (writes_read ks (fields_of bytes) f.count f.spelled) ∙ join-pieces comma bytes
+line_written ks bytes f = ap (join comma) (writes_read ks (fields_of bytes) f.count f.spelled) ∙ join_with_byte-slice_split comma bytes
 
 -- the station of an accepted line has the line's numbers
 fine-station : (bytes : List ℕ) → Fine station_line bytes → station_numbers (station_of (numbers_of station_line bytes)) ≡ numbers_of station_line bytes

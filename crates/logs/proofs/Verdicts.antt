@@ -1,6 +1,6 @@
 -- Refusals, one check after another.
 use Rattle.std.proofs.Common.{◌≡◌, ℕ, suc, Bool, true, false, not, eqb, List, [], ◌∷◌, length, Some, None, Ok, Err, Option, refl, ap, ◌∙◌, arith}
-use Rattle.std.proofs.lemmas.Bool.{not-false, eqb-true, eq-eqb, not_from_true}
+use Rattle.std.proofs.lemmas.Bool.{not-false, eqb-true, eq-eqb, ne_eqb, not_from_true}
 use Rattle.stations.specs.declared.fault.Fault.{Fault}
 use Rattle.stations.specs.declared.fault.Code.TheVariants.{BadField, OutOfRange}
 use Rattle.stations.specs.Faults.{fault, refuse_if, or_else, verdict}
@@ -55,6 +55,22 @@ fine-none line kinds bytes h =
     ap (λ x. or_else (refuse_if x (fault BadField line 0)) (or_else (field_fault spells BadField line 1 kinds (fields_of bytes)) (field_fault admits OutOfRange line 1 kinds (numbers_of kinds bytes)))) t
     ∙ after_none (field_fault spells BadField line 1 kinds (fields_of bytes)) _ (pass-none spells BadField line 1 kinds (fields_of bytes) h.spelled)
     ∙ pass-none admits OutOfRange line 1 kinds (numbers_of kinds bytes) h.admitted
+
+-- what a line is refused for: how many fields it has, how one is written, or what one says
+pub refused_count : (line : ℕ) (kinds : List FieldKind) (bytes : List ℕ) → (length (fields_of bytes) ≡ length kinds → ⊥) → line_fault line kinds bytes ≡ Some (fault BadField line 0)
+refused_count line kinds bytes off =
+    let t : eqb (length (fields_of bytes)) (length kinds) ≡ false = ne_eqb _ _ off in
+    at_some _ _ _ (ap (λ x. refuse_if (not x) (fault BadField line 0)) t)
+
+module _ (line : ℕ) (kinds : List FieldKind) (bytes : List ℕ) (f : Fault) (count : length (fields_of bytes) ≡ length kinds) where
+  counted : refuse_if (not (eqb (length (fields_of bytes)) (length kinds))) (fault BadField line 0) ≡ None
+  counted = ap (λ x. refuse_if (not x) (fault BadField line 0)) (eq-eqb _ _ count)
+
+  pub refused_spelling : field_fault spells BadField line 1 kinds (fields_of bytes) ≡ Some f → line_fault line kinds bytes ≡ Some f
+  refused_spelling e = after_none _ _ counted ∙ at_some _ (field_fault admits OutOfRange line 1 kinds (numbers_of kinds bytes)) f e
+
+  pub refused_range : field_fault spells BadField line 1 kinds (fields_of bytes) ≡ None → field_fault admits OutOfRange line 1 kinds (numbers_of kinds bytes) ≡ Some f → line_fault line kinds bytes ≡ Some f
+  refused_range none e = after_none _ _ counted ∙ after_none _ _ none ∙ e
 
 -- a line of n fields says n numbers
 pub length-paired : {A B : Type 0} (f : FieldKind → A → B) (ks : List FieldKind) (xs : List A) → length xs ≡ length ks → length (paired f ks xs) ≡ length ks

@@ -1,21 +1,17 @@
--- A line of a text, found from its first place.
-use Rattle.std.specs.Prelude.{◌≡◌, ℕ, ◌+◌, ◌<◌, ◌≤◌, false, List, [], ◌∷◌, length, drop, ◌==◌}
-use Rattle.std.specs.List.{between, AllByRecursion as Each}
-use Rattle.logs.specs.Pieces.{line_end, lines_of, fields_of}
+-- A line at the front of a text.
+use Rattle.std.specs.Prelude.{◌≡◌, ℕ, false, List, [], ◌∷◌, ◌++◌, ◌==◌}
+use Rattle.std.specs.List.{AllByRecursion as Each}
+use Rattle.logs.specs.Pieces.{line_end, lines_of}
 
 -- the text holds no separator
 abbrev pub Free : ℕ → List ℕ → Type 0
 Free sep bs = Each (λ b. (b == sep) ≡ false) bs
 
--- the line from `start` to its end, the lines after it, and how many fields it has
-pub record Found (text : List ℕ) (start : ℕ) (bytes : List ℕ) (fields end : ℕ) : Type 0 where
-  pub starts : start ≤ end
-  pub ends : end < length text
-  pub bytes_are : bytes ≡ between start end text
-  pub lines : lines_of (drop start text) ≡ bytes ∷ lines_of (drop (end + 1) text)
+-- the text begins with this line and its end, and goes on with the rest
+pub record Found (text bytes rest : List ℕ) : Type 0 where
+  pub whole : text ≡ bytes ++ line_end ∷ rest
   pub free : Free line_end bytes
-  pub count : fields ≡ length (fields_of bytes)
 
 -- no line end follows
-abbrev pub Unended : List ℕ → ℕ → Type 0
-Unended text start = lines_of (drop start text) ≡ drop start text ∷ []
+abbrev pub Unended : List ℕ → Type 0
+Unended text = lines_of text ≡ text ∷ []

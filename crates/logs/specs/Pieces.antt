@@ -1,21 +1,14 @@
 -- Text cut at a byte, and put together again.
-use Rattle.std.specs.Prelude.{ℕ, cond, List, [], ◌∷◌, ◌++◌, ◌==◌}
-
--- b in front of the first part
-abbrev pub onto : ℕ → List (List ℕ) → List (List ℕ)
-onto b [] = (b ∷ []) ∷ []
-onto b (p ∷ ps) = (b ∷ p) ∷ ps
+use Rattle.std.specs.Prelude.{ℕ, List, ◌==◌}
+use Rattle.std.specs.List.{slice_split, join_with_byte}
 
 -- the parts of the text between separators: n separators give n + 1 parts
 abbrev pub pieces : ℕ → List ℕ → List (List ℕ)
-pieces sep [] = [] ∷ []
-pieces sep (b ∷ bs) = cond (b == sep) ([] ∷ pieces sep bs) (onto b (pieces sep bs))
+pieces sep bs = slice_split (λ b. b == sep) bs
 
 -- the parts with a separator between each two
 abbrev pub join : ℕ → List (List ℕ) → List ℕ
-join sep [] = []
-join sep (p ∷ []) = p
-join sep (p ∷ q ∷ ps) = p ++ sep ∷ join sep (q ∷ ps)
+join sep ps = join_with_byte sep ps
 
 -- the byte between two fields
 abbrev pub comma : ℕ

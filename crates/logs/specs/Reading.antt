@@ -11,19 +11,17 @@ use Rattle.logs.specs.Checks.{log_fault, lines_fault, stations_fault, numbers_of
 use Rattle.logs.specs.Rendering.{rendering, question_numbers, Valid}
 use Rattle.logs.specs.declared.log.Log.{Log}
 
--- the question's line is accepted: what it says, and where the lines after it begin
-pub record Headed (text : List ℕ) (ranking : Ranker) (question : Question) (next : ℕ) : Type 0 where
-  pub within : next ≤ length text
-  pub decides : lines_fault (lines_of text) ≡ stations_fault 2 (lines_of (drop next text))
-  pub later : later_of (lines_of text) ≡ lines_of (drop next text)
+-- the question's line is accepted: what it says, and what follows it
+pub record Headed (text : List ℕ) (ranking : Ranker) (question : Question) (rest : List ℕ) : Type 0 where
+  pub decides : lines_fault (lines_of text) ≡ stations_fault 2 (lines_of rest)
+  pub later : later_of (lines_of text) ≡ lines_of rest
   pub numbers : question_numbers ranking question ≡ numbers_of question_line (first_of (lines_of text))
 
--- the stations' lines are accepted, and the row begins with their stations
-pub record Filled (text : List ℕ) (start : ℕ) (row : List Station) (count : ℕ) : Type 0 where
-  pub few : count ≤ most_stations
-  pub places : length row ≡ most_stations
-  pub decides : stations_fault 2 (lines_of (drop start text)) ≡ None
-  pub stations : take count row ≡ stations_in (lines_of (drop start text))
+-- the stations' lines are accepted, and these are their stations
+pub record Filled (text : List ℕ) (row : List Station) : Type 0 where
+  pub few : length row ≤ most_stations
+  pub decides : stations_fault 2 (lines_of text) ≡ None
+  pub stations : row ≡ stations_in (lines_of text)
 
 -- an accepted text: the buffer now begins with its stations, and the rest of it is as it was
 pub record Accepted (text : List ℕ) (before after : List Station) (log : Log) : Type 0 where

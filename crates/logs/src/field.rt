@@ -1,14 +1,13 @@
 // Fields: what each kind of field may hold, and how it is read.
-ghost use Rattle.std.specs.Prelude.{◌≡◌, if◌then◌else◌, Some, None, ◌+◌, ◌-◌, ◌<◌, ◌≤◌, false, length, drop, IfSome, MatchOption, slice_index};
+ghost use Rattle.std.specs.Prelude.{◌≡◌, ◌-◌, ◌<◌, ◌≤◌, false, length, IfSome, MatchOption, slice_index};
 ghost use Rattle.std.specs.Char.{is_ascii_digit};
-ghost use Rattle.logs.specs.Numerals.{most_digits, spelled, value};
-ghost use Rattle.logs.specs.Tokens.{front, is_end};
-ghost use Rattle.logs.specs.Fields.{spells, reading, admits, is_letter};
-ghost use Rattle.logs.specs.Checks.{most_bytes};
+ghost use Rattle.logs.specs.Numerals.{most_digits};
+ghost use Rattle.logs.specs.Tokens.{front};
+ghost use Rattle.logs.specs.Fields.{spells, admits};
 ghost use Rattle.logs.specs.Values.{Along, Said, Closed};
 
-use crate::line::field_at;
-use crate::token::is_part;
+use crate::parsed::Parsed;
+use crate::token::{Token, is_end, next_token};
 use rankings::MOST_WEIGHT;
 
 // k and the bounds of a region are read as measures are.
@@ -20,77 +19,14 @@ pub(crate) enum FieldKind {
     Weight,
 }
 
-// The ranking's letter, k, the region's lows and highs, the weights.
-pub(crate) const QUESTION_LINE: [FieldKind; 14] = [
-    FieldKind::Letter,
-    FieldKind::Measure,
-    FieldKind::Measure,
-    FieldKind::Measure,
-    FieldKind::Measure,
-    FieldKind::Measure,
-    FieldKind::Measure,
-    FieldKind::Measure,
-    FieldKind::Measure,
-    FieldKind::Measure,
-    FieldKind::Weight,
-    FieldKind::Weight,
-    FieldKind::Weight,
-    FieldKind::Weight,
-];
-
-// A station's number and its measures.
-pub(crate) const STATION_LINE: [FieldKind; 5] = [
-    FieldKind::Number,
-    FieldKind::Measure,
-    FieldKind::Measure,
-    FieldKind::Measure,
-    FieldKind::Measure,
-];
-
 // The most digits of a number.
 const MOST_DIGITS: usize = 10;
 
-// The letters of the two rankings.
+// The letters of the two rankings. A letter stands among the numbers of its line as its byte; an enum of the two would be
+// turned into a number and back.
 pub(crate) const SUM_LETTER: u8 = b'S';
 
 const LARGEST_LETTER: u8 = b'W';
-
-// A number of 1 to 10 digits, with no 0 in front of another digit.
-fn read_number(bytes: &[u8]) -> Option<u64>
-    ensures { result ≡ (if spelled bytes.now then Some (value bytes.now) else None) }
-{
-    if bytes.len() == 0 || bytes.len() > MOST_DIGITS {
-        return None;
-    }
-    if bytes[0] == b'0' && bytes.len() > 1 {
-        return None;
-    }
-    let mut n = 0u64;
-    for b in bytes {
-        if *b < b'0' || *b > b'9' {
-            return None;
-        }
-        n = 10 * n + (*b - b'0') as u64;
-    }
-    Some(n)
-}
-
-// One byte, S or W.
-fn read_letter(bytes: &[u8]) -> Option<u64>
-    ensures { result ≡ (if is_letter bytes.now then Some (reading FieldKind.Letter bytes.now) else None) }
-{
-    match bytes {
-        [letter] if *letter == SUM_LETTER || *letter == LARGEST_LETTER => Some(*letter as u64),
-        _ => None,
-    }
-}
-
-// What a field says, and where it ends.
-#[derive(Clone, Copy)]
-pub(crate) struct FieldValue {
-    pub(crate) number: u64,
-    pub(crate) end: usize,
-}
 
 // The digit that the byte is, or a number above 9 where it is none: one test tells.
 fn digit_of(b: u8) -> u32
@@ -100,102 +36,90 @@ fn digit_of(b: u8) -> u32
     (b as u32).wrapping_sub(48)
 }
 
-// The digits from a place on, as far as they go, and no further than `most`.
-fn digits_at(line: &[u8], at: usize, most: usize) -> FieldValue
-    requires order { at ≤ most }
-    requires within { most ≤ length line.now }
-    requires few { most ≤ at + most_digits }
-    ensures read { Along line.now at result.number result.end }
-    ensures most { result.end ≤ most }
-    ensures stops { result.end < most → is_ascii_digit (slice_index line.now result.end) ≡ false }
+// Digits, as a number, and how many they are.
+#[derive(Clone, Copy)]
+struct Digits {
+    number: u64,
+    len: usize,
+}
+
+// The digits at the front of the text, as far as they go, and no more than a number has. The bytes are walked once.
+fn read_digits(text: &[u8]) -> Digits
+    ensures read { Along text.now result.number result.len }
+    ensures most { result.len ≤ most_digits }
+    ensures stops { result.len < most_digits → result.len < length text.now → is_ascii_digit (slice_index text.now result.len) ≡ false }
 {
-    let mut number = 0u64;
-    for i in at..most {
-        let digit = digit_of(line[i]);
+    let most = MOST_DIGITS.min(text.len());
+    let mut number = 0;
+    for (i, b) in text[..most].iter().enumerate() {
+        let digit = digit_of(*b);
         if digit > 9 {
-            return FieldValue { number, end: i };
+            return Digits { number, len: i };
         }
         number = 10 * number + digit as u64;
     }
-    FieldValue { number, end: most }
+    Digits { number, len: most }
 }
 
-// No field goes on at the place.
-fn is_end(line: &[u8], at: usize) -> bool
-    ensures { result ≡ is_end (drop at line.now) }
+// The number at the front of the text, of 1 to 10 digits, with no 0 in front of another digit.
+fn read_number(text: &[u8]) -> Option<Parsed<'_, u64>>
+    ensures { MatchOption result (spells FieldKind.Number (front text.now) ≡ false) (λ v. Said FieldKind.Number text.now v.value v.rest.now) }
 {
-    if at >= line.len() {
-        return true;
-    }
-    is_part(line[at])
-}
-
-// The number that begins at a place of a line, as it is read above, and where it ends. The bytes are walked once.
-fn number_at(line: &[u8], at: usize) -> Option<FieldValue>
-    requires short { length line.now ≤ most_bytes }
-    requires within { at ≤ length line.now }
-    ensures { MatchOption result (spells FieldKind.Number (front (drop at line.now)) ≡ false) (λ v. Said FieldKind.Number (front (drop at line.now)) at v.number v.end) }
-{
-    let most = (at + MOST_DIGITS).min(line.len());
-    let value = digits_at(line, at, most);
-    if !is_end(line, value.end) || value.end == at {
+    let Digits { number, len } = read_digits(text);
+    let rest = &text[len..];
+    if len == 0 || !is_end(rest) {
         return None;
     }
-    if line[at] == b'0' && value.end > at + 1 {
+    if text[0] == b'0' && len > 1 {
         return None;
     }
-    Some(value)
+    Some(Parsed {
+        value: number,
+        rest,
+    })
 }
 
-// The letter that begins at a place of a line.
-fn letter_at(line: &[u8], at: usize) -> Option<FieldValue>
-    requires short { length line.now ≤ most_bytes }
-    requires within { at ≤ length line.now }
-    ensures { MatchOption result (spells FieldKind.Letter (front (drop at line.now)) ≡ false) (λ v. Said FieldKind.Letter (front (drop at line.now)) at v.number v.end) }
+// The letter at the front of the text.
+fn read_letter(text: &[u8]) -> Option<Parsed<'_, u64>>
+    ensures { MatchOption result (spells FieldKind.Letter (front text.now) ≡ false) (λ v. Said FieldKind.Letter text.now v.value v.rest.now) }
 {
-    match field_at(line, at) {
-        [letter] if *letter == SUM_LETTER || *letter == LARGEST_LETTER => Some(FieldValue {
-            number: *letter as u64,
-            end: at + 1,
+    let Some(Token::Field(field, _)) = next_token(text, 0) else {
+        return None;
+    };
+    match field {
+        [letter] if FieldKind::Letter.admits(*letter as u64) => Some(Parsed {
+            value: *letter as u64,
+            rest: &text[1..],
         }),
         _ => None,
     }
 }
 
 impl FieldKind {
-    // What the field says, or None where it is not written as its kind asks.
-    pub(crate) fn read(self, bytes: &[u8]) -> Option<u64>
-        ensures { result ≡ (if spells self bytes.now then Some (reading self bytes.now) else None) }
+    // What the field at the front of the text says, and what is left of the text. None where the field is not written as
+    // its kind asks.
+    pub(crate) fn read<'a>(self, text: &'a [u8]) -> Option<Parsed<'a, u64>>
+        ensures { MatchOption result (spells self (front text.now) ≡ false) (λ v. Said self text.now v.value v.rest.now) }
     {
         match self {
-            FieldKind::Letter => read_letter(bytes),
-            FieldKind::Number | FieldKind::Measure | FieldKind::Weight => read_number(bytes),
+            FieldKind::Letter => read_letter(text),
+            FieldKind::Number | FieldKind::Measure | FieldKind::Weight => read_number(text),
         }
     }
 
-    // What the field that begins at a place says, or None where it is not written as its kind asks.
-    pub(crate) fn read_at(self, line: &[u8], at: usize) -> Option<FieldValue>
-        requires short { length line.now ≤ most_bytes }
-        requires within { at ≤ length line.now }
-        ensures { MatchOption result (spells self (front (drop at line.now)) ≡ false) (λ v. Said self (front (drop at line.now)) at v.number v.end) }
+    // Takes a field off the front of the text, with the byte behind it. None where the field is not written as its kind
+    // asks, its number is out of range, or the byte is not the one asked for. Inline, since the walk of a line is hot.
+    #[inline(always)]
+    pub(crate) fn take<'a>(self, text: &'a [u8], close: u8) -> Option<Parsed<'a, u64>>
+        ensures { IfSome result (λ v. Closed self text.now close v.value v.rest.now) }
     {
-        match self {
-            FieldKind::Letter => letter_at(line, at),
-            FieldKind::Number | FieldKind::Measure | FieldKind::Weight => number_at(line, at),
-        }
-    }
-
-    // The same, where the byte that ends the field is the one asked for.
-    pub(crate) fn read_closed(self, text: &[u8], at: usize, close: u8) -> Option<FieldValue>
-        requires short { length text.now ≤ most_bytes }
-        requires within { at ≤ length text.now }
-        ensures { IfSome result (λ v. Closed self text.now at close v.number v.end) }
-    {
-        let value = self.read_at(text, at)?;
-        if value.end < text.len() && text[value.end] == close {
-            Some(value)
-        } else {
-            None
+        let field = self.read(text)?;
+        match field.rest {
+            [b, rest @ ..] if *b == close && self.admits(field.value) => Some(Parsed {
+                value: field.value,
+                rest,
+            }),
+            _ => None,
         }
     }
 

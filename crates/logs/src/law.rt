@@ -2,8 +2,6 @@
 ghost use Rattle.logs.specs.Rendering.{AcceptsExactly};
 
 // A text is accepted exactly where it is the one rendering of a log that fits the room.
-pub fn accepts_exactly_renderings() -> u8
+pub fn accepts_exactly_renderings()
     ensures { AcceptsExactly }
-{
-    0
-}
+{}

@@ -4,6 +4,7 @@ mod field;
 mod law;
 mod line;
 mod log;
+mod parsed;
 mod token;
 
 pub use law::accepts_exactly_renderings;

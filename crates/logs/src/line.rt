@@ -1,166 +1,177 @@
-// Lines: found in the text, and read field by field.
-ghost use Rattle.std.specs.Prelude.{◌≡◌, ◌+◌, ◌<◌, ◌≤◌, true, length, drop, IfSome, is_ok, Some, None, MatchOption};
+// Lines: found at the front of a text, and read field by field.
+ghost use Rattle.std.specs.Prelude.{◌≡◌, ℕ, ◌+◌, ◌<◌, ◌≤◌, length, drop, IfSome, None, Some, MatchOption, MatchResult};
 ghost use Rattle.stations.specs.declared.fault.Code.TheVariants.{BadField, OutOfRange};
 ghost use Rattle.stations.specs.Faults.{fault, verdict};
-ghost use Rattle.logs.specs.Pieces.{line_end, fields_of};
-ghost use Rattle.logs.specs.Tokens.{front};
+ghost use Rattle.logs.specs.Pieces.{line_end, lines_of, fields_of};
 ghost use Rattle.logs.specs.Fields.{spells, admits};
-ghost use Rattle.logs.specs.Checks.{most_bytes, field_fault, line_fault, numbers_of};
+ghost use Rattle.logs.specs.Checks.{field_fault, line_fault, numbers_of};
 ghost use Rattle.logs.specs.Lines.{Free, Found, Unended};
-ghost use Rattle.logs.specs.Walks.{Walked};
+ghost use Rattle.logs.specs.Walks.{Taken, first_fault};
 
 use crate::field::FieldKind;
-use crate::token::{Token, next_token};
+use crate::parsed::Parsed;
 use stations::{Code, Fault};
 
-// A line without its end, how many fields it has, and where its end stands in the text.
+// A kind of line: the kinds of its fields.
 #[derive(Clone, Copy)]
-pub(crate) struct Line<'a> {
-    pub(crate) bytes: &'a [u8],
-    pub(crate) fields: usize,
-    pub(crate) end: usize,
+pub(crate) struct LineKind<const N: usize> {
+    pub(crate) fields: [FieldKind; N],
+    ghost few: { N ≤ 14 },
 }
 
-// The line that begins at a place, or None where no line end follows.
-pub(crate) fn line_at<'a>(text: &'a [u8], start: usize) -> Option<Line<'a>>
-    requires { start ≤ length text.now }
-    ensures { MatchOption result (Unended text.now start) (λ line. Found text.now start line.bytes.now line.fields line.end) }
+// The ranking's letter, k, the region's lows and highs, the weights.
+pub(crate) const QUESTION_LINE: LineKind<14> = LineKind {
+    fields: [
+        FieldKind::Letter,
+        FieldKind::Measure,
+        FieldKind::Measure,
+        FieldKind::Measure,
+        FieldKind::Measure,
+        FieldKind::Measure,
+        FieldKind::Measure,
+        FieldKind::Measure,
+        FieldKind::Measure,
+        FieldKind::Measure,
+        FieldKind::Weight,
+        FieldKind::Weight,
+        FieldKind::Weight,
+        FieldKind::Weight,
+    ],
+};
+
+// A station's number and its measures.
+pub(crate) const STATION_LINE: LineKind<5> = LineKind {
+    fields: [
+        FieldKind::Number,
+        FieldKind::Measure,
+        FieldKind::Measure,
+        FieldKind::Measure,
+        FieldKind::Measure,
+    ],
+};
+
+// The line at the front of the text, without its end, and what is left behind that. None where no line end follows.
+fn split_line(text: &[u8]) -> Option<Parsed<'_, &[u8]>>
+    ensures { MatchOption result (Unended text.now) (λ line. Found text.now line.value.now line.rest.now) }
 {
-    let mut at = start;
-    let mut commas = 0;
-    while let Some(token) = next_token(text, at) {
-        match token {
-            Token::Field(bytes, _) => at += bytes.len(),
-            Token::Comma(_) => {
-                commas += 1;
-                at += 1;
-            }
-            Token::LineEnd(end) => {
-                return Some(Line {
-                    bytes: &text[start..end],
-                    fields: commas + 1,
-                    end,
-                });
-            }
+    let len = text.iter().position(|b| *b == b'\n')?;
+    Some(Parsed {
+        value: &text[..len],
+        rest: &text[len + 1..],
+    })
+}
+
+// How many fields a line has.
+fn field_count(line: &[u8]) -> usize
+    ensures { result ≡ length (fields_of line.now) }
+{
+    line.split(|b| *b == b',').count()
+}
+
+// What is left behind the comma that comes first, or nothing behind the last field.
+fn behind_comma(rest: &[u8]) -> &[u8]
+    ensures { result.now ≡ drop 1 rest.now }
+{
+    match rest {
+        [_, others @ ..] => others,
+        [] => rest,
+    }
+}
+
+impl<const N: usize> LineKind<N> {
+    // Why the field at a place, from 0, is refused. In a refusal fields are counted from 1.
+    fn field_fault(&self, code: Code, line: u32, place: usize) -> Fault
+        requires { place < N }
+        ensures { result ≡ fault code line (place + 1) }
+    {
+        code.at(line, place as u32 + 1)
+    }
+
+    // What each field says. The line has as many fields as there are kinds.
+    fn read_fields(&self, number: u32, line: &[u8]) -> Result<[u64; N], Fault>
+        requires free { Free line_end line.now }
+        requires fields { length (fields_of line.now) ≡ N }
+        ensures { MatchResult result (λ ns. (field_fault spells BadField number 1 self.now.fields (fields_of line.now) ≡ None) × (ns ≡ numbers_of self.now.fields line.now)) (λ f. field_fault spells BadField number 1 self.now.fields (fields_of line.now) ≡ Some f) }
+    {
+        let mut numbers = [0; N];
+        let mut rest = line;
+        for (place, kind) in self.fields.iter().enumerate() {
+            let Some(field) = kind.read(rest) else {
+                return Err(self.field_fault(Code::BadField, number, place));
+            };
+            numbers[place] = field.value;
+            rest = behind_comma(field.rest);
+        }
+        Ok(numbers)
+    }
+
+    // Refuses the first number that is out of the range of its kind.
+    fn check_ranges(&self, line: u32, numbers: &[u64; N]) -> Result<(), Fault>
+        ensures { result ≡ verdict (field_fault admits OutOfRange line 1 self.now.fields numbers.now) }
+    {
+        let bad = self
+            .fields
+            .iter()
+            .zip(numbers)
+            .position(|(kind, n)| !kind.admits(*n));
+        match bad {
+            Some(place) => Err(self.field_fault(Code::OutOfRange, line, place)),
+            None => Ok(()),
         }
     }
-    None
-}
 
-// The field that begins at a place of a line. It is empty where a comma comes at once, or nothing.
-pub(crate) fn field_at<'a>(line: &'a [u8], at: usize) -> &'a [u8]
-    ensures { result.now ≡ front (drop at line.now) }
-{
-    let Some(token) = next_token(line, at) else {
-        return &line[0..0];
-    };
-    match token {
-        Token::Field(bytes, _) => bytes,
-        Token::Comma(_) | Token::LineEnd(_) => &line[0..0],
-    }
-}
-
-// Why a field is refused. Its place in the row of kinds is from 0, and fields are counted from 1.
-fn field_fault(code: Code, line: u32, place: usize) -> Fault
-    requires { place < 14 }
-    ensures { result ≡ fault code line (place + 1) }
-{
-    Fault {
-        code,
-        first: line,
-        second: place as u32 + 1,
-    }
-}
-
-// Reads each field as its kind asks, into the place of the kind. The line has as many fields as there are kinds.
-fn read_fields(
-    number: u32,
-    line: &[u8],
-    kinds: &[FieldKind],
-    numbers: &mut [u64],
-) -> Result<(), Fault>
-    requires short { length line.now ≤ most_bytes }
-    requires free { Free line_end line.now }
-    requires fields { length (fields_of line.now) ≡ length kinds.now }
-    requires places { length numbers.old ≡ length kinds.now }
-    requires few { length kinds.now ≤ 14 }
-    ensures value { result ≡ verdict (field_fault spells BadField number 1 kinds.now (fields_of line.now)) }
-    ensures after { is_ok result ≡ true → numbers.new ≡ numbers_of kinds.now line.now }
-{
-    let mut at = 0;
-    for j in 0..kinds.len() {
-        let field = field_at(line, at);
-        match kinds[j].read(field) {
-            Some(n) => numbers[j] = n,
-            None => return Err(field_fault(Code::BadField, number, j)),
+    // Takes the line off the front of the text in one walk. None where it is not as the kinds ask.
+    fn walk_line<'a>(&self, text: &'a [u8]) -> Option<Parsed<'a, [u64; N]>>
+        ensures { (number : ℕ) → IfSome result (λ line. Taken number self.now.fields text.now line.value line.rest.now) }
+    {
+        let (last, others) = self.fields.split_last()?;
+        let mut numbers = [0; N];
+        let mut rest = text;
+        for (place, kind) in others.iter().enumerate() {
+            let field = kind.take(rest, b',')?;
+            numbers[place] = field.value;
+            rest = field.rest;
         }
-        at += field.len() + 1;
+        let field = last.take(rest, b'\n')?;
+        numbers[others.len()] = field.value;
+        Some(Parsed {
+            value: numbers,
+            rest: field.rest,
+        })
     }
-    Ok(())
-}
 
-// Reads the fields of the line that begins at a place in one walk, and answers where the line ends. None where the line is
-// not as the kinds ask.
-pub(crate) fn fields_at(
-    text: &[u8],
-    start: usize,
-    kinds: &[FieldKind],
-    numbers: &mut [u64],
-) -> Option<usize>
-    requires short { length text.now ≤ most_bytes }
-    requires within { start ≤ length text.now }
-    requires some { 0 < length kinds.now }
-    requires places { length numbers.old ≡ length kinds.now }
-    ensures { IfSome result (Walked text.now start kinds.now numbers.new) }
-{
-    let last = kinds.len() - 1;
-    let mut at = start;
-    for j in 0..last {
-        let value = kinds[j].read_closed(text, at, b',')?;
-        numbers[j] = value.number;
-        at = value.end + 1;
+    // Looks for the first fault in checking order: how many fields, then how each is written, then what each says. Out of
+    // line, so that it costs the walk no registers.
+    #[cold]
+    #[inline(never)]
+    fn read_line<'a>(&self, number: u32, text: &'a [u8]) -> Result<Parsed<'a, [u64; N]>, Fault>
+        ensures { MatchResult result (λ line. Taken number self.now.fields text.now line.value line.rest.now) (λ f. first_fault number self.now.fields (lines_of text.now) ≡ Some f) }
+    {
+        let Some(line) = split_line(text) else {
+            return Err(Code::BadField.at(number, 0));
+        };
+        if field_count(line.value) != N {
+            return Err(Code::BadField.at(number, 0));
+        }
+        let numbers = self.read_fields(number, line.value)?;
+        self.check_ranges(number, &numbers)?;
+        Ok(Parsed {
+            value: numbers,
+            rest: line.rest,
+        })
     }
-    let value = kinds[last].read_closed(text, at, b'\n')?;
-    numbers[last] = value.number;
-    Some(value.end)
-}
 
-// Refuses the first number that is out of the range of its kind.
-pub(crate) fn check_ranges(number: u32, kinds: &[FieldKind], numbers: &[u64]) -> Result<(), Fault>
-    requires places { length numbers.now ≡ length kinds.now }
-    requires few { length kinds.now ≤ 14 }
-    ensures { result ≡ verdict (field_fault admits OutOfRange number 1 kinds.now numbers.now) }
-{
-    for j in 0..kinds.len() {
-        if !kinds[j].admits(numbers[j]) {
-            return Err(field_fault(Code::OutOfRange, number, j));
+    // Takes the line off the front of the text: what its fields say, or its first fault.
+    pub(crate) fn take_line<'a>(
+        &self,
+        number: u32,
+        text: &'a [u8],
+    ) -> Result<Parsed<'a, [u64; N]>, Fault>
+        ensures { MatchResult result (λ line. Taken number self.now.fields text.now line.value line.rest.now) (λ f. first_fault number self.now.fields (lines_of text.now) ≡ Some f) }
+    {
+        match self.walk_line(text) {
+            Some(line) => Ok(line),
+            None => self.read_line(number, text),
         }
     }
-    Ok(())
-}
-
-// Reads a line: how many fields, then how each is written, then what each says.
-pub(crate) fn read_line(
-    number: u32,
-    line: &Line,
-    kinds: &[FieldKind],
-    numbers: &mut [u64],
-) -> Result<(), Fault>
-    requires short { length line.now.bytes.now ≤ most_bytes }
-    requires free { Free line_end line.now.bytes.now }
-    requires count { line.now.fields ≡ length (fields_of line.now.bytes.now) }
-    requires places { length numbers.old ≡ length kinds.now }
-    requires few { length kinds.now ≤ 14 }
-    ensures value { result ≡ verdict (line_fault number kinds.now line.now.bytes.now) }
-    ensures after { is_ok result ≡ true → numbers.new ≡ numbers_of kinds.now line.now.bytes.now }
-{
-    if line.fields != kinds.len() {
-        return Err(Fault {
-            code: Code::BadField,
-            first: number,
-            second: 0,
-        });
-    }
-    read_fields(number, line.bytes, kinds, numbers)?;
-    check_ranges(number, kinds, numbers)
 }

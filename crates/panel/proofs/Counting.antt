@@ -1,5 +1,5 @@
 -- From what was read of a log to how many stations it has.
-use Rattle.std.proofs.Common.{◌≡◌, ℕ, ◌≤◌, List, length, take, Some, None, Option, sym, ap, ◌∙◌, arith}
+use Rattle.std.proofs.Common.{◌≡◌, ℕ, ◌≤◌, List, length, take, None, Option, sym, ap, ◌∙◌, arith}
 use Rattle.std.proofs.lemmas.List.{length-take-le}
 use Rattle.stations.specs.declared.fault.Fault.{Fault}
 use Rattle.stations.specs.declared.station.Station.{Station}
@@ -10,7 +10,7 @@ use Rattle.logs.specs.Reading.{Accepted}
 use Rattle.logs.specs.Rendering.{Rendered}
 use Rattle.logs.proofs.Laws.{says}
 use Rattle.panel.specs.declared.reply.Reply.{Reply}
-use Rattle.panel.specs.Replies.{accepting, refusing, check_reply}
+use Rattle.panel.specs.Replies.{accepting, check_reply}
 
 module _ {text : List ℕ} {before after : List Station} {log : Log} (a : Accepted text before after log) (few : log.count ≤ most_stations) (long : length after ≡ most_stations) where
   abbrev rendered : Rendered most_stations text
@@ -28,6 +28,3 @@ module _ {text : List ℕ} {before after : List Station} {log : Log} (a : Accept
 
 pub checked : (o : Option Fault) (n m : ℕ) (r : Reply) → o ≡ None → m ≡ n → r ≡ accepting m → r ≡ check_reply o n
 checked o n m r none e p = p ∙ ap accepting e ∙ ap (λ o. check_reply o n) (sym none)
-
-pub unchecked : (o : Option Fault) (n : ℕ) (f : Fault) (r : Reply) → o ≡ Some f → r ≡ refusing f 0 → r ≡ check_reply o n
-unchecked o n f r some p = p ∙ ap (λ o. check_reply o n) (sym some)

@@ -6,7 +6,6 @@ use Rattle.stations.specs.Rows.{most_stations}
 use Rattle.logs.specs.Checks.{log_fault, row_in}
 use Rattle.stored.specs.Loading.{load_fault, page_count}
 use Rattle.printing.specs.declared.report.Report.{Report}
-use Rattle.printing.specs.declared.report.Report.TheVariants as report
 use Rattle.printing.specs.Printed.{Prints}
 use Rattle.picking.specs.Picks.{pick_fault, pick_lines, ask_fault, ask_lines}
 use Rattle.binding.specs.Binding.{Binds}
@@ -25,10 +24,14 @@ abbrev pub reply_to : Result ℕ Fault → Reply
 reply_to (Ok n) = accepting n
 reply_to (Err f) = refusing f 0
 
+-- so many bytes were printed, and this refusal among them, if any
+abbrev pub reported : Option Fault → ℕ → Reply
+reported None n = accepting n
+reported (Some f) n = refusing f n
+
 -- the reply to a call that prints: the bytes of a refusal count too, and only a buffer that is too short has the length 0
 abbrev pub reply_of : Result Report Fault → Reply
-reply_of (Ok (report.Done n)) = accepting n
-reply_of (Ok (report.Refused f n)) = refusing f n
+reply_of (Ok r) = reported r.refusal r.len
 reply_of (Err f) = refusing f 0
 
 -- the reply to a check: how many there are, or the refusal

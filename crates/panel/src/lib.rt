@@ -1,12 +1,14 @@
 #![tactic(auto)]
 // The picker for C: calls on byte slices that the caller lends. Nothing is kept between calls, and nothing is allocated.
-ghost use Rattle.std.specs.Prelude.{◌≡◌};
+ghost use Rattle.std.specs.Prelude.{◌≡◌, length, Some, None, MatchResult};
+ghost use Rattle.stations.specs.Rows.{most_stations};
+ghost use Rattle.logs.specs.Checks.{log_fault, row_in};
 ghost use Rattle.panel.specs.Replies.{log_reply, book_reply, BookBound, LogPicked, BookAsked};
 
 use binding::bind_log;
 use logs::read_log;
 use picking::{ask, pick};
-use stations::{MOST_STATIONS, Measures, Station};
+use stations::{Fault, MOST_STATIONS, Station};
 use stored::Stored;
 
 mod reply;
@@ -16,27 +18,22 @@ pub use reply::Reply;
 // The bytes of a page of a stored book.
 const PAGE: usize = 256;
 
-// What stands in a row before a station is put there.
-const NOWHERE: Station = Station {
-    number: 0,
-    at: Measures {
-        m1: 0,
-        m2: 0,
-        m3: 0,
-        m4: 0,
-    },
-};
+// How many stations a log has, or why it is refused.
+fn count_stations(log: &[u8]) -> Result<usize, Fault>
+    ensures { MatchResult result (λ n. (log_fault most_stations log.now ≡ None) × (n ≡ length (row_in log.now))) (λ f. log_fault most_stations log.now ≡ Some f) }
+{
+    // Lent to the reader, which says how much of it is filled.
+    let mut row = [Station::default(); MOST_STATIONS];
+    let read = read_log(log, &mut row)?;
+    Ok(read.count)
+}
 
 // Checks a log, and says how many stations it has.
 #[unsafe(no_mangle)]
 pub extern "C" fn picker_check_log(log: &[u8]) -> Reply
     ensures { result ≡ log_reply log.now }
 {
-    let mut row = [NOWHERE; MOST_STATIONS];
-    match read_log(log, &mut row) {
-        Ok(read) => Reply::accepting(read.count),
-        Err(fault) => Reply::refusing(fault, 0),
-    }
+    count_stations(log).into()
 }
 
 // Checks a stored book, and says how many pages it has.
@@ -45,10 +42,7 @@ pub extern "C" fn picker_check_book(book: &[u8]) -> Reply
     ensures { result ≡ book_reply book.now }
 {
     let mut stored = Stored::new();
-    if let Err(fault) = stored.load(book) {
-        return Reply::refusing(fault, 0);
-    }
-    Reply::accepting(book.len() / PAGE)
+    stored.load(book).map(|()| book.len() / PAGE).into()
 }
 
 // Writes the stored book of a log's stations, and says how many bytes it has.
@@ -56,7 +50,7 @@ pub extern "C" fn picker_check_book(book: &[u8]) -> Reply
 pub extern "C" fn picker_bind(log: &[u8], book: &mut [u8]) -> Reply
     ensures { BookBound log.now book.old book.new result }
 {
-    Reply::to(bind_log(log, book))
+    bind_log(log, book).into()
 }
 
 // Prints the answer to a log's question over the log's stations.
@@ -64,7 +58,7 @@ pub extern "C" fn picker_bind(log: &[u8], book: &mut [u8]) -> Reply
 pub extern "C" fn picker_pick(log: &[u8], print: &mut [u8]) -> Reply
     ensures { LogPicked log.now print.old print.new result }
 {
-    Reply::of(pick(log, print))
+    pick(log, print).into()
 }
 
 // Prints the answer to a question over a stored book.
@@ -72,5 +66,5 @@ pub extern "C" fn picker_pick(log: &[u8], print: &mut [u8]) -> Reply
 pub extern "C" fn picker_ask(book: &[u8], question: &[u8], print: &mut [u8]) -> Reply
     ensures { BookAsked book.now question.now print.old print.new result }
 {
-    Reply::of(ask(book, question, print))
+    ask(book, question, print).into()
 }

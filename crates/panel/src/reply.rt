@@ -5,9 +5,9 @@ ghost use Rattle.panel.specs.Replies.{accepting, refusing, reply_to, reply_of};
 use printing::Report;
 use stations::Fault;
 
-// The code is 0 where nothing is refused, and else the refusal's number, with its two places. The length is of what was written or counted.
+// C has no Result: the code is 0 where nothing is refused, and else the refusal's number, with its two places. The length is of what was written or counted.
 #[repr(C)]
-#[derive(Clone, Copy)]
+#[derive(Clone, Copy, PartialEq, Eq)]
 pub struct Reply {
     pub code: u32,
     pub first: u32,
@@ -16,7 +16,7 @@ pub struct Reply {
 }
 
 impl Reply {
-    pub(crate) fn accepting(length: usize) -> Reply
+    fn accepting(length: usize) -> Reply
         ensures { result ≡ accepting length }
     {
         Reply {
@@ -27,7 +27,7 @@ impl Reply {
         }
     }
 
-    pub(crate) fn refusing(fault: Fault, length: usize) -> Reply
+    fn refusing(fault: Fault, length: usize) -> Reply
         ensures { result ≡ refusing fault length }
     {
         Reply {
@@ -37,22 +37,30 @@ impl Reply {
             length,
         }
     }
+}
 
-    pub(crate) fn to(answer: Result<usize, Fault>) -> Reply
-        ensures { result ≡ reply_to answer }
-    {
+// To a call that counts or writes.
+impl From<Result<usize, Fault>> for Reply {
+    ghost from_gives = { λ answer reply. reply ≡ reply_to answer };
+
+    fn from(answer: Result<usize, Fault>) -> Reply {
         match answer {
             Ok(length) => Reply::accepting(length),
             Err(fault) => Reply::refusing(fault, 0),
         }
     }
+}
 
-    pub(crate) fn of(report: Result<Report, Fault>) -> Reply
-        ensures { result ≡ reply_of report }
-    {
-        match report {
-            Ok(Report::Done(length)) => Reply::accepting(length),
-            Ok(Report::Refused(fault, length)) => Reply::refusing(fault, length),
+// To a call that prints.
+impl From<Result<Report, Fault>> for Reply {
+    ghost from_gives = { λ answer reply. reply ≡ reply_of answer };
+
+    fn from(answer: Result<Report, Fault>) -> Reply {
+        match answer {
+            Ok(Report { len, refusal }) => match refusal {
+                Some(fault) => Reply::refusing(fault, len),
+                None => Reply::accepting(len),
+            },
             Err(short) => Reply::refusing(short, 0),
         }
     }

@@ -12,6 +12,7 @@ const MOST_INPUT: u64 = 65_537;
 // Room for every listing: 512 lines of at most 56 bytes, and the last.
 const MOST_OUTPUT: usize = 32_768;
 
+// `pick`, `ask`, `scan` and `bind` share the lines around the call; a crate for them would be longer than they are.
 fn run(rt: &HostRuntime) -> anyhow::Result<Report> {
     let mut text = Vec::new(rt.alloc());
     rt.stdin().take(MOST_INPUT).read_to_end(&mut text)?;

@@ -1,5 +1,5 @@
 -- From a text and a book to what is printed of them.
-use Rattle.std.proofs.Common.{◌≡◌, ℕ, ◌-◌, cond, not, List, take, is_some, Some, None, Ok, Err, Option, Result, sym, refl, ap, ◌∙◌, arith}
+use Rattle.std.proofs.Common.{◌≡◌, ℕ, cond, not, List, take, is_some, Some, None, Ok, Err, Option, Result, sym, refl, ap, ◌∙◌, arith}
 use Rattle.stations.specs.declared.station.Station.{Station}
 use Rattle.stations.specs.declared.fault.Fault.{Fault}
 use Rattle.stations.specs.Faults.{or_else, verdict}
@@ -24,7 +24,7 @@ or_else_lem None b c = refl
 
 module _ {text : List ℕ} {before after : List Station} {log : Log} (a : Accepted text before after log) where
   -- a log's text comes to the search over the roll of its row
-  pub picked : log_fault most_stations text ≡ None → (b : Book) → b ≡ roll_book (take (log.count - 0) after) → (pick_fault text ≡ search_fault (ranker_score log.ranking) b log.question) × (pick_lines text ≡ search_lines (ranker_score log.ranking) b log.question)
+  pub picked : log_fault most_stations text ≡ None → (b : Book) → b ≡ roll_book (take log.count after) → (pick_fault text ≡ search_fault (ranker_score log.ranking) b log.question) × (pick_lines text ≡ search_lines (ranker_score log.ranking) b log.question)
   picked none b is = (
     ap (λ o. or_else o (search_fault (score_in text) (roll_book (row_in text)) (question_in text))) none
         ∙ read_as a (λ rank question row. search_fault rank (roll_book row) question) ∙ ap (λ x. search_fault (ranker_score log.ranking) x log.question) (sym is),

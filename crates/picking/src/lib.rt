@@ -10,30 +10,23 @@ ghost use Rattle.printing.specs.Printed.{refusal, closing_line, closed_listing, 
 ghost use Rattle.picking.specs.Picks.{fault_in, closing_at, search_fault, search_lines, pick_fault, pick_lines, ask_fault, ask_lines, KeepsPromises, PicksAnswer};
 
 use logs::read_log;
-use printing::{Closing, Report, print_listing_closed, print_refusal};
+use printing::{Closing, Report, print_listing, print_refusal};
 use rankings::Ranker;
 use rolls::Roll;
 use search::Run;
 use sources::PageSource;
-use stations::{Fault, MOST_STATIONS, Measures, Question, Station};
+use stations::{Fault, MOST_STATIONS, Question, Station};
 use stored::Stored;
-
-// What stands in a buffer before a station is put there.
-const NOWHERE: Station = Station {
-    number: 0,
-    at: Measures {
-        m1: 0,
-        m2: 0,
-        m3: 0,
-        m4: 0,
-    },
-};
 
 // Prints a refusal alone.
 fn refuse(fault: Fault, print: &mut [u8]) -> Result<Report, Fault>
     ensures { Prints (Some fault) (refusal fault) print.old print.new result }
 {
-    Ok(Report::Refused(fault, print_refusal(fault, print)?))
+    let len = print_refusal(fault, print)?;
+    Ok(Report {
+        len,
+        refusal: Some(fault),
+    })
 }
 
 // Prints the stations and how the search for them ended.
@@ -46,18 +39,10 @@ fn print_end(
 ) -> Result<Report, Fault>
     ensures { Prints (fault_in end) (closed_listing (ranker_score ranking) (closing_line (closing_at end pages)) list.now) print.old print.new result }
 {
-    match end {
-        Ok(_) => Ok(Report::Done(print_listing_closed(
-            list,
-            &ranking,
-            Closing::Done(pages),
-            print,
-        )?)),
-        Err(fault) => Ok(Report::Refused(
-            fault,
-            print_listing_closed(list, &ranking, Closing::Refused(fault), print)?,
-        )),
-    }
+    let refusal = end.err();
+    let closing = refusal.map_or(Closing::Done(pages), Closing::Refused);
+    let len = print_listing(list, &ranking, closing, print)?;
+    Ok(Report { len, refusal })
 }
 
 // Asks the question of the source, and prints the stations handed out, in order, and how the search ended.
@@ -85,16 +70,15 @@ pub fn pick(text: &[u8], print: &mut [u8]) -> Result<Report, Fault>
     ensures answers { PicksAnswer text.now }
     ensures prints { Prints (pick_fault text.now) (pick_lines text.now) print.old print.new result }
 {
-    let mut row = [NOWHERE; MOST_STATIONS];
-    match read_log(text, &mut row) {
-        Ok(log) => {
-            let count = log.count;
-            let mut roll = Roll::new();
-            roll.load(&row[0..count])?;
-            print_search(roll, log.ranking, log.question, print)
-        }
-        Err(fault) => refuse(fault, print),
-    }
+    // Lent to the reader, which says how much of it is filled.
+    let mut row = [Station::default(); MOST_STATIONS];
+    let log = match read_log(text, &mut row) {
+        Ok(log) => log,
+        Err(fault) => return refuse(fault, print),
+    };
+    let mut roll = Roll::new();
+    roll.load(&row[..log.count])?;
+    print_search(roll, log.ranking, log.question, print)
 }
 
 // Asks a question of a stored book. The question is a log's first line, with no station behind it.
@@ -102,15 +86,13 @@ pub fn ask(book: &[u8], text: &[u8], print: &mut [u8]) -> Result<Report, Fault>
     ensures promised { log_fault 0 text.now ≡ None → load_fault book.now ≡ None → KeepsPromises (score_in text.now) (spelled_book book.now) (question_in text.now) }
     ensures prints { Prints (ask_fault book.now text.now) (ask_lines book.now text.now) print.old print.new result }
 {
-    let mut none: [Station; 0] = [];
-    match read_log(text, &mut none) {
-        Ok(log) => {
-            let mut stored = Stored::new();
-            match stored.load(book) {
-                Ok(_) => print_search(stored, log.ranking, log.question, print),
-                Err(fault) => refuse(fault, print),
-            }
-        }
-        Err(fault) => refuse(fault, print),
+    let log = match read_log(text, &mut []) {
+        Ok(log) => log,
+        Err(fault) => return refuse(fault, print),
+    };
+    let mut stored = Stored::new();
+    if let Err(fault) = stored.load(book) {
+        return refuse(fault, print);
     }
+    print_search(stored, log.ranking, log.question, print)
 }

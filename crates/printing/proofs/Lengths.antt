@@ -1,13 +1,10 @@
 -- How long what is printed is.
-use Rattle.std.proofs.Common.{◌≡◌, ℕ, ◌+◌, ◌-◌, ◌/◌, ◌%◌, ◌^◌, ◌<◌, ◌≤◌, false, leb, List, ◌∷◌, ◌++◌, length, get_or, drop, decimal, sym, ap, ◌∙◌, arith}
-use borrow.Author.Tests.{lt-leb}
+use Rattle.std.proofs.Common.{◌≡◌, ℕ, suc, ◌+◌, ◌*◌, ◌/◌, ◌%◌, ◌^◌, ◌<◌, ◌≤◌, List, [], ◌∷◌, length, get_or, decimal, refl, sym, ap, ◌∙◌, arith, rules, Fits, w64}
+use Rattle.std.specs.List.{sum_by}
 use Rattle.std.proofs.lemmas.Fmt.{decimal_step, decimal_digit, length-decimal-le}
-use Rattle.std.proofs.lemmas.List.{length_push, length-append, at_drop_more, at_drop_all}
-use Rattle.std.proofs.lemmas.Bool.Decides.{nat_tests}
-use Rattle.stations.specs.declared.measures.Measures.{Measures}
-use Rattle.stations.specs.declared.station.Station.{Station}
-use Rattle.stations.proofs.Rows.{nowhere}
-use Rattle.printing.specs.Printed.{ender, numbered, station_numbers, closed_listing}
+use Rattle.std.proofs.lemmas.List.Sums.{sum_by-cons}
+use Rattle.std.proofs.lemmas.List.{length_push, length-append}
+use Rattle.printing.specs.Printed.{ender, numbered}
 
 pub one_digit : (n : ℕ) → n < 10 → 1 ≡ length (decimal n)
 one_digit n h = sym (ap length (decimal_digit n h))
@@ -18,38 +15,17 @@ digit_more n h k = sym (ap length (decimal_step n h k) ∙ length_push (decimal 
 pub digits-few : (n : ℕ) → n < 2 ^ 64 → length (decimal n) ≤ 20
 digits-few n h = length-decimal-le 20 n (omega arith) (omega arith) h
 
--- a line of numbers from place i on
-pub numbered-at : (ns : List ℕ) (i : ℕ) → i < length ns → numbered (drop i ns) ≡ decimal (get_or ns i 0) ++ ender (drop (i + 1) ns) ∷ numbered (drop (i + 1) ns)
-numbered-at ns i h = at_drop_more numbered ns i 0 h
+-- a line is as long as its numbers, each with the byte behind it
+pub numbered-sum : (ns : List ℕ) → sum_by (λ n. length (decimal n) + 1) ns ≡ length (numbered ns)
+numbered-sum [] = refl
+numbered-sum (n ∷ ns) =
+    let e = length-append (decimal n) (ender ns ∷ numbered ns) in
+    omega (arith, numbered-sum ns, sum_by-cons (λ m. length (decimal m) + 1) n ns, e)
 
-pub length-numbered-at : (ns : List ℕ) (i : ℕ) → i < length ns → length (numbered (drop i ns)) ≡ length (decimal (get_or ns i 0)) + 1 + length (numbered (drop (i + 1) ns))
-length-numbered-at ns i h = omega (arith, ap length (numbered-at ns i h), length-append (decimal (get_or ns i 0)) (ender (drop (i + 1) ns) ∷ numbered (drop (i + 1) ns)))
-
--- the byte behind the number at place i
-pub ender-more : (ns : List ℕ) (i : ℕ) → i + 1 < length ns → ender (drop (i + 1) ns) ≡ 44
-ender-more ns i h = at_drop_more ender ns (i + 1) 0 h
-
-pub ender-last : (ns : List ℕ) (i : ℕ) → length ns ≤ i + 1 → ender (drop (i + 1) ns) ≡ 10
-ender-last ns i h = at_drop_all ender ns (i + 1) h
-
--- the room that is left decides whether all fits
-pub fits_more : (line rest room : ℕ) → line ≤ room → leb (line + rest) room ≡ leb rest (room - line)
-fits_more line rest room h = grind (arith, nat_tests)
-
-pub fits_never : (line rest room : ℕ) → room < line → false ≡ leb (line + rest) room
-fits_never line rest room h = sym (lt-leb (line + rest) room (omega arith))
-
-module _ (rank : Measures → ℕ) (last : List ℕ) (list : List Station) (i : ℕ) (below : i < length list) where
-  pub listing-at : closed_listing rank last (drop i list) ≡ numbered (station_numbers (rank (get_or list i nowhere).at) (get_or list i nowhere)) ++ closed_listing rank last (drop (i + 1) list)
-  listing-at = at_drop_more (closed_listing rank last) list i nowhere below
-
-  -- the line at place i, from the rank, the numbers and the length that the code found
-  module _ (r : ℕ) (ns : List ℕ) (er : r ≡ rank (get_or list i nowhere).at) (en : ns ≡ station_numbers r (get_or list i nowhere)) where
-    pub line_is : numbered ns ≡ numbered (station_numbers (rank (get_or list i nowhere).at) (get_or list i nowhere))
-    line_is = ap numbered (en ∙ ap (λ k. station_numbers k (get_or list i nowhere)) er)
-
-    pub listing_step : closed_listing rank last (drop i list) ≡ numbered ns ++ closed_listing rank last (drop (i + 1) list)
-    listing_step = listing-at ∙ ap (λ line. line ++ closed_listing rank last (drop (i + 1) list)) (sym line_is)
-
-    pub length-listing-step : (n : ℕ) → n ≡ length (numbered ns) → length (closed_listing rank last (drop i list)) ≡ n + length (closed_listing rank last (drop (i + 1) list))
-    length-listing-step n e = ap length listing_step ∙ length-append (numbered ns) (closed_listing rank last (drop (i + 1) list)) ∙ ap (λ k. k + length (closed_listing rank last (drop (i + 1) list))) (sym e)
+pub numbered-few : (ns : List ℕ) → ((i : ℕ) → Fits w64 (get_or ns i 0)) → length (numbered ns) ≤ 21 * length ns
+numbered-few [] small = omega arith
+numbered-few (n ∷ ns) small =
+    let fits : Fits w64 n = small 0 in
+    let first : n < 2 ^ 64 = search rules in
+    let e = length-append (decimal n) (ender ns ∷ numbered ns) in
+    omega (arith, digits-few n first, numbered-few ns (λ i. small (suc i)), e)

@@ -1,49 +1,92 @@
--- Lines of numbers, and listings, written a part at a time.
-use Rattle.std.proofs.Common.{◌≡◌, ℕ, ◌+◌, ◌<◌, ◌≤◌, List, [], ◌∷◌, ◌++◌, length, get_or, drop, set, decimal, sym, refl, ap, ◌∙◌, arith}
-use Rattle.std.proofs.lemmas.List.{append-nil, append_assoc, at_drop_all}
+-- Bytes written from back to front.
+use Rattle.std.proofs.Common.{◌≡◌, ℕ, ◌+◌, ◌<◌, ◌≤◌, List, [], ◌∷◌, ◌++◌, length, get_or, drop, decimal, sym, refl, ap, ◌∙◌, subst, append-nil, append_assoc, arith}
+use Rattle.std.proofs.lemmas.List.{length-append, at_drop_more}
 use Rattle.stations.specs.declared.measures.Measures.{Measures}
 use Rattle.stations.specs.declared.station.Station.{Station}
 use Rattle.stations.proofs.Rows.{nowhere}
-use Rattle.printing.specs.Printed.{Wrote, ender, numbered, station_numbers, closing_line, listing, closed_listing}
-use Rattle.printing.specs.declared.closing.Closing.TheVariants.{Complete}
-use Rattle.printing.proofs.Writing.{Writing, wrote_as, wrote_byte, wrote_then, writing_as, writing_more, writing-done}
-use Rattle.printing.proofs.Lengths.{numbered-at, length-numbered-at, listing_step, length-listing-step}
+use Rattle.printing.specs.Printed.{ender, numbered, station_numbers, closed_listing, Wrote}
 
--- a number of the line and the byte behind it
-module _ (numbers : List ℕ) (i : ℕ) (below : i < length numbers) {from : ℕ} {was : List ℕ} {at : ℕ} {is : List ℕ} (w : Writing from was (numbered numbers) at is (numbered (drop i numbers))) where
-  -- there is room for the number and the byte behind it
-  pub number_room : from + length (numbered numbers) ≤ length was → at + length (decimal (get_or numbers i 0)) + 1 ≤ length was
-  number_room room = omega (arith, length-numbered-at numbers i below, w.long)
+-- more bytes in front of those that are written
+pub wrote_more : {end : ℕ} {was bytes : List ℕ} {at : ℕ} {mid more : List ℕ} {start : ℕ} {is : List ℕ} → Wrote end was bytes at mid → Wrote at mid more start is → Wrote end was (more ++ bytes) start is
+wrote_more {end} {was} {bytes} {at} {mid} {more} {start} {is} p q =
+    record {
+      ends = omega (arith, p.ends, q.ends, length-append more bytes);
+      behind = q.behind ∙ ap (λ xs. more ++ xs) p.behind ∙ sym (append_assoc more bytes (drop end was));
+    }
 
-  pub number-written : {end : ℕ} {mid : List ℕ} (byte : ℕ) → Wrote at is (decimal (get_or numbers i 0)) end mid → end < length mid → byte ≡ ender (drop (i + 1) numbers) → Writing from was (numbered numbers) (end + 1) (set mid end byte) (numbered (drop (i + 1) numbers))
-  number-written {end} {mid} byte p room e =
-      writing_more (decimal (get_or numbers i 0) ++ ender (drop (i + 1) numbers) ∷ []) (numbered (drop (i + 1) numbers))
-      (writing_as (numbered-at numbers i below ∙ sym (append_assoc (decimal (get_or numbers i 0)) (ender (drop (i + 1) numbers) ∷ []) (numbered (drop (i + 1) numbers)))) w)
-      (wrote_as (ap (λ b. decimal (get_or numbers i 0) ++ b ∷ []) e) (wrote_then p (wrote_byte end mid byte room)))
+-- the numbers behind the rest of a line are written
+pub record Part (end : ℕ) (was numbers rest : List ℕ) (next start : ℕ) (is : List ℕ) : Type 0 where
+  pub done : List ℕ
+  pub split : numbers ≡ rest ++ done
+  pub ender_is : next ≡ ender done
+  pub wrote : Wrote end was (numbered done) start is
 
-pub numbers-written : (numbers : List ℕ) (i : ℕ) → length numbers ≤ i → {from : ℕ} {was : List ℕ} {at : ℕ} {is : List ℕ} → Writing from was (numbered numbers) at is (numbered (drop i numbers)) → Wrote from was (numbered numbers) at is
-numbers-written numbers i past w = writing-done (writing_as (at_drop_all numbered numbers i past) w)
+pub part_none : (end : ℕ) (was numbers rest : List ℕ) → rest ≡ numbers → Part end was numbers rest 10 end was
+part_none end was numbers rest e = record { done = []; split = sym (append-nil rest ∙ e); ender_is = refl; wrote = record { ends = omega arith; behind = refl } }
 
--- a listing's lines, from the start of the buffer
-module _ (rank : Measures → ℕ) (last : List ℕ) (list : List Station) (i : ℕ) (below : i < length list) {was : List ℕ} {at : ℕ} {is : List ℕ} (w : Writing 0 was (closed_listing rank last list) at is (closed_listing rank last (drop i list))) (r : ℕ) (ns : List ℕ) (er : r ≡ rank (get_or list i nowhere).at) (en : ns ≡ station_numbers r (get_or list i nowhere)) where
-  pub line_room : length (closed_listing rank last list) ≤ length was → at + length (numbered ns) ≤ length was
-  line_room room = omega (arith, length-listing-step rank last list i below r ns er en (length (numbered ns)) refl, w.long)
+-- the numbers that are written take no more room than all of them
+numbered-longer : (xs ys : List ℕ) → length (numbered ys) ≤ length (numbered (xs ++ ys))
+numbered-longer [] ys = omega arith
+numbered-longer (x ∷ xs) ys = let e = length-append (decimal x) (ender (xs ++ ys) ∷ numbered (xs ++ ys)) in omega (arith, numbered-longer xs ys, e)
 
-  pub line_written : {end : ℕ} {next : List ℕ} → Wrote at is (numbered ns) end next → Writing 0 was (closed_listing rank last list) end next (closed_listing rank last (drop (i + 1) list))
-  line_written p = writing_more (numbered ns) (closed_listing rank last (drop (i + 1) list)) (writing_as (listing_step rank last list i below r ns er en) w) p
+module _ {end : ℕ} {was numbers rest : List ℕ} {next start : ℕ} {is : List ℕ} (p : Part end was numbers rest next start is) where
+  pub part-all : length rest ≡ 0 → Wrote end was (numbered numbers) start is
+  part-all none = subst (λ xs. Wrote end was (numbered xs) start is) (sym (p.split ∙ front rest none)) p.wrote
+    where
+      front : (xs : List ℕ) → length xs ≡ 0 → xs ++ p.done ≡ p.done
+      front [] e = refl
+      front (x ∷ xs) e = absurd (omega arith)
 
-module _ (rank : Measures → ℕ) (last : List ℕ) (list : List Station) (i : ℕ) (past : length list ≤ i) {was : List ℕ} {at : ℕ} {is : List ℕ} (w : Writing 0 was (closed_listing rank last list) at is (closed_listing rank last (drop i list))) where
-  -- the last line is left
-  done-left : Writing 0 was (closed_listing rank last list) at is (closed_listing rank last [])
-  done-left = writing_as (at_drop_all (closed_listing rank last) list i past) w
+  module _ (left : List ℕ) (n : ℕ) (more : rest ≡ left ++ n ∷ []) where
+    again : numbers ≡ left ++ n ∷ p.done
+    again = p.split ∙ ap (λ xs. xs ++ p.done) more ∙ append_assoc left (n ∷ []) p.done
 
-  pub done_room : length (closed_listing rank last list) ≤ length was → at + length last ≤ length was
-  done_room room = omega (arith, done-left.long)
+    -- there is room for the number and the byte behind it
+    pub part_room : (word : List ℕ) → length (word ++ numbered numbers) ≤ end → length (decimal n) + 1 ≤ start
+    part_room word room =
+        omega (arith, ap (λ xs. length (numbered xs)) again, numbered-longer left (n ∷ p.done), length-append (decimal n) (ender p.done ∷ numbered p.done), length-append word (numbered numbers), p.wrote.ends)
 
-  pub listing-written : {end : ℕ} {next : List ℕ} → Wrote at is (closed_listing rank last []) end next → Wrote 0 was (closed_listing rank last list) end next
-  listing-written p = writing-done (writing_more (closed_listing rank last []) [] (writing_as (sym (append-nil (closed_listing rank last []))) done-left) p)
+    pub part_more : (at : ℕ) (mid : List ℕ) (first : ℕ) (after : List ℕ) → Wrote start is (next ∷ []) at mid → Wrote at mid (decimal n) first after → Part end was numbers left 44 first after
+    part_more at mid first after q r =
+        record {
+          done = n ∷ p.done;
+          split = again;
+          ender_is = refl;
+          wrote = subst (λ b. Wrote end was (decimal n ++ b ∷ numbered p.done) first after) p.ender_is (wrote_more (wrote_more p.wrote q) r);
+        }
 
--- the listing that ends in `done` is the one with that last line
-pub listing_complete : (rank : Measures → ℕ) (list : List Station) → listing rank list ≡ closed_listing rank (closing_line Complete) list
-listing_complete rank [] = refl
-listing_complete rank (s ∷ list) = ap (λ lines. numbered (station_numbers (rank s.at) s) ++ lines) (listing_complete rank list)
+-- the lines behind the rest of a listing are written
+pub record Rows (rank : Measures → ℕ) (last : List ℕ) (end : ℕ) (was : List ℕ) (list rest : List Station) (start : ℕ) (is : List ℕ) : Type 0 where
+  pub done : List Station
+  pub split : list ≡ rest ++ done
+  pub wrote : Wrote end was (closed_listing rank last done) start is
+
+module _ (rank : Measures → ℕ) (last : List ℕ) where
+  listing-longer : (xs ys : List Station) → length (closed_listing rank last ys) ≤ length (closed_listing rank last (xs ++ ys))
+  listing-longer [] ys = omega arith
+  listing-longer (x ∷ xs) ys = omega (arith, listing-longer xs ys, length-append (numbered (station_numbers (rank x.at) x)) (closed_listing rank last (xs ++ ys)))
+
+  pub closing_room : (list : List Station) → length last ≤ length (closed_listing rank last list)
+  closing_room list = let e = ap (λ xs. length (closed_listing rank last xs)) (append-nil list) in omega (arith, listing-longer list [], e)
+
+  -- the line at a place, and those behind it
+  pub length-listing-at : (list : List Station) (i : ℕ) → i < length list → (line : List ℕ) → line ≡ numbered (station_numbers (rank (get_or list i nowhere).at) (get_or list i nowhere)) → length (closed_listing rank last (drop i list)) ≡ length line + length (closed_listing rank last (drop (i + 1) list))
+  length-listing-at list i below line line_is =
+      ap length (at_drop_more (closed_listing rank last) list i nowhere below ∙ ap (λ l. l ++ closed_listing rank last (drop (i + 1) list)) (sym line_is)) ∙ length-append line (closed_listing rank last (drop (i + 1) list))
+
+  module _ {end : ℕ} {was : List ℕ} {list rest : List Station} {start : ℕ} {is : List ℕ} (p : Rows rank last end was list rest start is) where
+    module _ (left : List Station) (s : Station) (more : rest ≡ left ++ s ∷ []) (line : List ℕ) (line_is : line ≡ numbered (station_numbers (rank s.at) s)) where
+      rows-again : list ≡ left ++ s ∷ p.done
+      rows-again = p.split ∙ ap (λ xs. xs ++ p.done) more ∙ append_assoc left (s ∷ []) p.done
+
+      pub rows_room : length (closed_listing rank last list) ≤ end → length line ≤ start
+      rows_room room =
+          omega (arith, ap (λ xs. length (closed_listing rank last xs)) rows-again, listing-longer left (s ∷ p.done), length-append line (closed_listing rank last p.done), ap (λ l. length (l ++ closed_listing rank last p.done)) line_is, p.wrote.ends)
+
+      pub rows_more : (first : ℕ) (after : List ℕ) → Wrote start is line first after → Rows rank last end was list left first after
+      rows_more first after q =
+          record {
+            done = s ∷ p.done;
+            split = rows-again;
+            wrote = subst (λ l. Wrote end was (l ++ closed_listing rank last p.done) first after) line_is (wrote_more p.wrote q);
+          }

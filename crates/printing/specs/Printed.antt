@@ -9,7 +9,6 @@ use Rattle.printing.specs.declared.closing.Closing.{Closing}
 use Rattle.printing.specs.declared.closing.Closing.TheVariants as closing
 use Rattle.printing.specs.declared.closing.Closing.TheVariants.{Complete}
 use Rattle.printing.specs.declared.report.Report.{Report}
-use Rattle.printing.specs.declared.report.Report.TheVariants as report
 
 -- what follows a number: a comma, or the line's end behind the last
 abbrev pub ender : List ℕ → ℕ
@@ -24,11 +23,6 @@ numbered (n ∷ ns) = decimal n ++ ender ns ∷ numbered ns
 -- what is printed of a station: number, M1 to M4, rank
 abbrev pub station_numbers : ℕ → Station → List ℕ
 station_numbers rank s = s.number ∷ s.at.m1 ∷ s.at.m2 ∷ s.at.m3 ∷ s.at.m4 ∷ rank ∷ []
-
--- a line for each station, and then `done`
-abbrev pub listing : (Measures → ℕ) → List Station → List ℕ
-listing rank [] = codes "done" ++ 10 ∷ []
-listing rank (s ∷ ss) = numbered (station_numbers (rank s.at) s) ++ listing rank ss
 
 -- what is printed of a refusal: its code and its two places
 abbrev pub fault_numbers : Fault → List ℕ
@@ -49,11 +43,14 @@ abbrev pub closed_listing : (Measures → ℕ) → List ℕ → List Station →
 closed_listing rank last [] = last
 closed_listing rank last (s ∷ ss) = numbered (station_numbers (rank s.at) s) ++ closed_listing rank last ss
 
--- bytes written from a place on: they stand there, they end at the second place, and nothing else changed
-pub record Wrote (at : ℕ) (was bytes : List ℕ) (end : ℕ) (is : List ℕ) : Type 0 where
-  pub ends : end ≡ at + length bytes
-  pub front : take end is ≡ take at was ++ bytes
-  pub rest : drop end is ≡ drop end was
+-- a line for each station, and then `done`
+abbrev pub listing : (Measures → ℕ) → List Station → List ℕ
+listing rank ss = closed_listing rank (closing_line Complete) ss
+
+-- bytes written in front of the first place: they begin at the second, and behind them all is as it was
+pub record Wrote (end : ℕ) (was bytes : List ℕ) (start : ℕ) (is : List ℕ) : Type 0 where
+  pub ends : start + length bytes ≡ end
+  pub behind : drop start is ≡ bytes ++ drop end was
 
 -- the first bytes of the buffer are these and the others are as they were; or the buffer was too short, and is as it was
 abbrev pub Printed : List ℕ → List ℕ → List ℕ → Result ℕ Fault → Type 0
@@ -62,8 +59,7 @@ Printed bytes was is (Err f) = (f ≡ placeless ShortBuffer) × (length was < le
 
 -- the bytes are printed, and the report says whether what they list is complete or why it ends; or the buffer was too short
 abbrev pub Prints : Option Fault → List ℕ → List ℕ → List ℕ → Result Report Fault → Type 0
-Prints why bytes was is (Ok (report.Done n)) = (why ≡ None) × Printed bytes was is (Ok n)
-Prints why bytes was is (Ok (report.Refused f n)) = (why ≡ Some f) × Printed bytes was is (Ok n)
+Prints why bytes was is (Ok r) = (why ≡ r.refusal) × Printed bytes was is (Ok r.len)
 Prints why bytes was is (Err f) = Printed bytes was is (Err f)
 
 -- a refusal is printed alone; else the lines are

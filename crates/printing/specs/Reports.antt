@@ -1,14 +1,11 @@
 -- What a report says.
-use Rattle.std.specs.Prelude.{ℕ, Bool, true, false}
+use Rattle.std.specs.Prelude.{ℕ, Bool, is_none}
 use Rattle.printing.specs.declared.report.Report.{Report}
-use Rattle.printing.specs.declared.report.Report.TheVariants.{Done, Refused}
 
 -- how many bytes were printed
 abbrev pub length_of : Report → ℕ
-length_of (Done n) = n
-length_of (Refused f n) = n
+length_of r = r.len
 
 -- the listing is complete
 abbrev pub is_complete : Report → Bool
-is_complete (Done n) = true
-is_complete (Refused f n) = false
+is_complete r = is_none r.refusal

@@ -1,8 +1,9 @@
 #![tactic(auto)]
 // The printed form of an answer, and of a refusal, into a lent buffer.
-ghost use Rattle.std.specs.Prelude.{◌≡◌, ℕ, ◌+◌, ◌≤◌, List, [], length, decimal, nat_le};
+ghost use Rattle.std.specs.Prelude.{◌≡◌, ◌+◌, ◌<◌, ◌≤◌, ◌++◌, length, decimal, MatchOption};
 ghost use Rattle.printing.specs.Printed.{numbered, station_numbers, fault_numbers, closing_line, listing, closed_listing, refusal, Wrote, Printed};
 
+use itoa::write_digits;
 use rankings::Ranking;
 use stations::{Code, Fault, Station};
 
@@ -12,66 +13,96 @@ mod report;
 pub use closing::Closing;
 pub use report::Report;
 
+// How many digits a number has. The kit's `itoa` writes digits, and does not count them.
 fn decimal_len(n: u64) -> usize
-    ensures { result ≡ length (decimal n) }
+    ensures value { result ≡ length (decimal n) }
+    ensures bound { result ≤ 20 }
 {
     if n < 10 { 1 } else { decimal_len(n / 10) + 1 }
 }
 
-// Writes the digits of n from a place on, and says where they end.
-fn put_decimal(out: &mut [u8], at: usize, n: u64) -> usize
-    requires { «at» + length (decimal n) ≤ length out.old }
-    ensures { Wrote «at» out.old (decimal n) result out.new }
+// How long the line of a word and of numbers, parted by commas, is.
+fn line_len(word: &[u8], numbers: &[u64]) -> usize
+    requires short { length word.now ≤ 8 }
+    requires few { length numbers.now ≤ 8 }
+    ensures value { result ≡ length (word.now ++ numbered numbers.now) }
+    ensures bound { result ≤ 176 }
 {
-    if n < 10 {
-        out[at] = 48 + n as u8;
-        at + 1
-    } else {
-        let end = put_decimal(out, at, n / 10);
-        out[end] = 48 + (n % 10) as u8;
-        end + 1
+    let digits: usize = numbers.iter().map(|n| decimal_len(*n) + 1).sum();
+    word.len() + digits
+}
+
+// Bytes that are written into a lent buffer from back to front, since the last digit of a number comes first. Those that
+// are written stand from `start` on.
+#[derive(Drop)]
+struct Printer<'a> {
+    out: &'a mut [u8],
+    start: usize,
+    ghost within: { start ≤ length out.now },
+}
+
+impl<'a> Printer<'a> {
+    // Puts bytes in front.
+    fn put(&mut self, bytes: &[u8])
+        requires { length bytes.now ≤ self.old.start }
+        ensures same { self.new.out.ghost_name ≡ self.old.out.ghost_name }
+        ensures wrote { Wrote self.old.start self.old.out.now bytes.now self.new.start self.new.out.now }
+    {
+        let end = self.start;
+        self.start -= bytes.len();
+        self.out[self.start..end].copy_from_slice(bytes);
+    }
+
+    // Puts a line in front.
+    fn put_line(&mut self, word: &[u8], numbers: &[u64])
+        requires { length (word.now ++ numbered numbers.now) ≤ self.old.start }
+        ensures same { self.new.out.ghost_name ≡ self.old.out.ghost_name }
+        ensures wrote { Wrote self.old.start self.old.out.now (word.now ++ numbered numbers.now) self.new.start self.new.out.now }
+    {
+        let mut behind = b'\n';
+        for n in numbers.iter().rev() {
+            self.put(&[behind]);
+            self.start = write_digits(*n, self.out, self.start);
+            behind = b',';
+        }
+        self.put(word);
+    }
+
+    // Puts the closing line in front.
+    fn put_closing(&mut self, closing: Closing)
+        requires { length (closing_line closing) ≤ self.old.start }
+        ensures same { self.new.out.ghost_name ≡ self.old.out.ghost_name }
+        ensures wrote { Wrote self.old.start self.old.out.now (closing_line closing) self.new.start self.new.out.now }
+    {
+        match closing {
+            Closing::Complete => self.put(COMPLETE),
+            Closing::Done(pages) => self.put_line(DONE, &[pages as u64]),
+            Closing::Refused(fault) => self.put_line(REFUSED, &fault_numbers(fault)),
+        }
     }
 }
 
-// Writes bytes from a place on, and says where they end.
-fn put_bytes(out: &mut [u8], at: usize, bytes: &[u8]) -> usize
-    requires { «at» + length bytes.now ≤ length out.old }
-    ensures { Wrote «at» out.old bytes.now result out.new }
-{
-    let end = at + bytes.len();
-    out[at..end].copy_from_slice(bytes);
-    end
-}
+const COMPLETE: &[u8] = b"done\n";
 
-// How long a line of numbers is.
-fn numbers_len(numbers: &[u64]) -> usize
-    requires { length numbers.now ≤ 8 }
-    ensures value { result ≡ length (numbered numbers.now) }
-    ensures bound { result ≤ 168 }
+const DONE: &[u8] = b"done,";
+
+const REFUSED: &[u8] = b"refused,";
+
+// How long the closing line is.
+fn closing_len(closing: Closing) -> usize
+    ensures value { result ≡ length (closing_line closing) }
+    ensures bound { result ≤ 176 }
 {
-    let mut n = 0;
-    for number in numbers {
-        n += decimal_len(*number) + 1;
+    match closing {
+        Closing::Complete => COMPLETE.len(),
+        Closing::Done(pages) => line_len(DONE, &[pages as u64]),
+        Closing::Refused(fault) => line_len(REFUSED, &fault_numbers(fault)),
     }
-    n
 }
 
-// Writes a line of numbers from a place on, and says where it ends.
-fn put_numbers(out: &mut [u8], at: usize, numbers: &[u64]) -> usize
-    requires { «at» + length (numbered numbers.now) ≤ length out.old }
-    ensures { Wrote «at» out.old (numbered numbers.now) result out.new }
-{
-    let mut end = at;
-    for i in 0..numbers.len() {
-        end = put_decimal(out, end, numbers[i]);
-        out[end] = if i + 1 < numbers.len() { b',' } else { b'\n' };
-        end += 1;
-    }
-    end
-}
-
-fn numbers_of(s: Station, rank: u64) -> [u64; 6]
-    ensures { result ≡ station_numbers rank s }
+// What is printed of a station: number, M1 to M4 and rank.
+fn station_numbers<R: Ranking>(s: Station, ranking: &R) -> [u64; 6]
+    ensures { result ≡ station_numbers (R.score ranking.now s.at) s }
 {
     [
         s.number as u64,
@@ -79,10 +110,11 @@ fn numbers_of(s: Station, rank: u64) -> [u64; 6]
         s.at.m2 as u64,
         s.at.m3 as u64,
         s.at.m4 as u64,
-        rank,
+        ranking.rank(s.at),
     ]
 }
 
+// A refusal's code and its two places.
 fn fault_numbers(fault: Fault) -> [u64; 3]
     ensures { result ≡ fault_numbers fault }
 {
@@ -93,116 +125,41 @@ fn fault_numbers(fault: Fault) -> [u64; 3]
     ]
 }
 
-const COMPLETE: [u8; 5] = *b"done\n";
-
-const DONE: [u8; 5] = *b"done,";
-
-const REFUSED: [u8; 8] = *b"refused,";
-
-// How long the closing line is.
-fn closing_len(closing: Closing) -> usize
-    ensures value { result ≡ length (closing_line closing) }
-    ensures bound { result ≤ 176 }
-{
-    match closing {
-        Closing::Complete => COMPLETE.len(),
-        Closing::Done(pages) => DONE.len() + numbers_len(&[pages as u64]),
-        Closing::Refused(fault) => REFUSED.len() + numbers_len(&fault_numbers(fault)),
-    }
-}
-
-// Writes the closing line from a place on, and says where it ends.
-fn put_closing(out: &mut [u8], at: usize, closing: Closing) -> usize
-    requires { «at» + length (closing_line closing) ≤ length out.old }
-    ensures { Wrote «at» out.old (closing_line closing) result out.new }
-{
-    match closing {
-        Closing::Complete => put_bytes(out, at, &COMPLETE),
-        Closing::Done(pages) => {
-            let end = put_bytes(out, at, &DONE);
-            put_numbers(out, end, &[pages as u64])
-        }
-        Closing::Refused(fault) => {
-            let end = put_bytes(out, at, &REFUSED);
-            put_numbers(out, end, &fault_numbers(fault))
-        }
-    }
-}
-
-// The lines and the closing line are no longer than the room.
-fn closed_listing_fits<R: Ranking>(
+// How long the lines and the closing line are, if that is no longer than the room.
+fn listing_len<R: Ranking>(
     list: &[Station],
     ranking: &R,
     closing: Closing,
     room: usize,
-) -> bool
-    ensures { result ≡ nat_le (length (closed_listing (R.score ranking.now) (closing_line closing) list.now)) room }
+) -> Option<usize>
+    ensures { MatchOption result (room < length (closed_listing (R.score ranking.now) (closing_line closing) list.now)) (λ len. (len ≡ length (closed_listing (R.score ranking.now) (closing_line closing) list.now)) × (len ≤ room)) }
 {
-    let mut left = room;
+    let mut left = room.checked_sub(closing_len(closing))?;
     for s in list {
-        let n = numbers_len(&numbers_of(*s, ranking.rank(s.at)));
-        if left < n {
-            return false;
-        }
-        left -= n;
+        left = left.checked_sub(line_len(b"", &station_numbers(*s, ranking)))?;
     }
-    closing_len(closing) <= left
-}
-
-// The listing is no longer than the room.
-fn listing_fits<R: Ranking>(list: &[Station], ranking: &R, room: usize) -> bool
-    ensures { result ≡ nat_le (length (listing (R.score ranking.now) list.now)) room }
-{
-    closed_listing_fits(list, ranking, Closing::Complete, room)
-}
-
-// Writes the lines and the closing line, for which there is room, and says where they end.
-fn put_listing<R: Ranking>(list: &[Station], ranking: &R, closing: Closing, out: &mut [u8]) -> usize
-    requires { length (closed_listing (R.score ranking.now) (closing_line closing) list.now) ≤ length out.old }
-    ensures { Wrote 0 out.old (closed_listing (R.score ranking.now) (closing_line closing) list.now) result out.new }
-{
-    let mut end = 0;
-    for s in list {
-        end = put_numbers(out, end, &numbers_of(*s, ranking.rank(s.at)));
-    }
-    put_closing(out, end, closing)
-}
-
-// Prints a line for each station, number, M1 to M4 and rank, and then `done`.
-pub fn print_listing<R: Ranking>(
-    list: &[Station],
-    ranking: &R,
-    out: &mut [u8],
-) -> Result<usize, Fault>
-    ensures { Printed (listing (R.score ranking.now) list.now) out.old out.new result }
-{
-    if !listing_fits(list, ranking, out.len()) {
-        return Err(Fault {
-            code: Code::ShortBuffer,
-            first: 0,
-            second: 0,
-        });
-    }
-    Ok(put_listing(list, ranking, Closing::Complete, out))
+    Some(room - left)
 }
 
 // Prints a line for each station, number, M1 to M4 and rank, and then the closing line.
-pub fn print_listing_closed<R: Ranking>(
+pub fn print_listing<R: Ranking>(
     list: &[Station],
     ranking: &R,
     closing: Closing,
     out: &mut [u8],
 ) -> Result<usize, Fault>
-    ensures { Printed (closed_listing (R.score ranking.now) (closing_line closing) list.now) out.old out.new result }
+    ensures lines { Printed (closed_listing (R.score ranking.now) (closing_line closing) list.now) out.old out.new result }
+    ensures complete { closing ≡ Closing.Complete → Printed (listing (R.score ranking.now) list.now) out.old out.new result }
 {
-    if !closed_listing_fits(list, ranking, closing, out.len()) {
-        return Err(Fault {
-            code: Code::ShortBuffer,
-            first: 0,
-            second: 0,
-        });
+    let Some(len) = listing_len(list, ranking, closing, out.len()) else {
+        return Err(Code::ShortBuffer.into());
+    };
+    let mut printer = Printer { out, start: len };
+    printer.put_closing(closing);
+    for s in list.iter().rev() {
+        printer.put_line(b"", &station_numbers(*s, ranking));
     }
-    Ok(put_listing(list, ranking, closing, out))
+    Ok(len)
 }
 
 // Prints a refusal's code and its two places.
@@ -210,12 +167,11 @@ pub fn print_refusal(fault: Fault, out: &mut [u8]) -> Result<usize, Fault>
     ensures { Printed (refusal fault) out.old out.new result }
 {
     let closing = Closing::Refused(fault);
-    if out.len() < closing_len(closing) {
-        return Err(Fault {
-            code: Code::ShortBuffer,
-            first: 0,
-            second: 0,
-        });
+    let len = closing_len(closing);
+    if out.len() < len {
+        return Err(Code::ShortBuffer.into());
     }
-    Ok(put_closing(out, 0, closing))
+    let mut printer = Printer { out, start: len };
+    printer.put_closing(closing);
+    Ok(len)
 }

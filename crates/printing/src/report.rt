@@ -3,30 +3,24 @@ ghost use Rattle.printing.specs.Reports.{length_of, is_complete};
 
 use stations::Fault;
 
-// How many bytes were printed: of a complete listing, or of one that ends in a refusal.
-#[derive(Clone, Copy)]
-pub enum Report {
-    Done(usize),
-    Refused(Fault, usize),
+// How many bytes were printed, and the refusal in which the listing ends, if it is not complete.
+#[derive(Clone, Copy, PartialEq, Eq)]
+pub struct Report {
+    pub len: usize,
+    pub refusal: Option<Fault>,
 }
 
 impl Report {
     pub fn len(self) -> usize
         ensures { result ≡ length_of self }
     {
-        match self {
-            Report::Done(n) => n,
-            Report::Refused(_, n) => n,
-        }
+        self.len
     }
 
     // Nothing was refused.
     pub fn is_done(self) -> bool
         ensures { result ≡ is_complete self }
     {
-        match self {
-            Report::Done(_) => true,
-            Report::Refused(_, _) => false,
-        }
+        self.refusal.is_none()
     }
 }

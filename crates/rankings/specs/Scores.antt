@@ -1,9 +1,13 @@
 -- What the supplied rankings mean.
-use Rattle.std.specs.Prelude.{◌≡◌, ℕ, ◌+◌, ◌*◌, ◌<◌, max, ◌⊎◌}
+use Rattle.std.specs.Prelude.{◌≡◌, ℕ, List, [], ◌∷◌, ◌+◌, ◌*◌, ◌<◌, max, ◌⊎◌}
 use Rattle.stations.specs.declared.measures.Measures.{Measures}
 use Rattle.rankings.specs.declared.weights.Weights.{Weights}
 use Rattle.rankings.specs.declared.weights.Ranker.{Ranker}
 use Rattle.rankings.specs.declared.weights.Ranker.TheVariants.{Sum, Largest}
+
+-- each weight times its measure
+abbrev pub products : Weights → Measures → List ℕ
+products w p = w.w1 * p.m1 ∷ w.w2 * p.m2 ∷ w.w3 * p.m3 ∷ w.w4 * p.m4 ∷ []
 
 -- S: the four products added
 abbrev pub weighted_sum : Weights → Measures → ℕ

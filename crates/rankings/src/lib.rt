@@ -1,11 +1,12 @@
 #![tactic(auto)]
 // Rankings: what a station's measures are worth, as one number. Small is good.
 ghost use Rattle.std.specs.Prelude.{◌≡◌, ℕ, ◌*◌, ◌^◌, ◌<◌, ◌≤◌, MatchResult};
+ghost use Rattle.std.specs.List.{AllByRecursion as Each};
 ghost use Rattle.stations.specs.declared.measures.Measures.{Measures};
 ghost use Rattle.stations.specs.Beating.{Ordinary, ◌≼◌};
 ghost use Rattle.stations.specs.Faults.{placeless};
 ghost use Rattle.stations.specs.declared.fault.Code.TheVariants.{OutOfRange};
-ghost use Rattle.rankings.specs.Scores.{weighted_sum, largest_product, ranker_score, TooHeavy, Weighs};
+ghost use Rattle.rankings.specs.Scores.{products, weighted_sum, largest_product, ranker_score, TooHeavy, Weighs};
 ghost use Rattle.rankings.specs.ScoresLemmas.{sum_rises, sum_below, largest_rises, largest_below, ranker_rises, ranker-below};
 
 use stations::{Code, Fault, Measures};
@@ -23,13 +24,22 @@ impl Weights {
         ensures { MatchResult result (λ w. Weighs w w1 w2 w3 w4) (λ f. (f ≡ placeless OutOfRange) × TooHeavy w1 w2 w3 w4) }
     {
         if w1 > MOST_WEIGHT || w2 > MOST_WEIGHT || w3 > MOST_WEIGHT || w4 > MOST_WEIGHT {
-            return Err(Fault {
-                code: Code::OutOfRange,
-                first: 0,
-                second: 0,
-            });
+            return Err(Code::OutOfRange.into());
         }
         Ok(Weights { w1, w2, w3, w4 })
+    }
+
+    // Each weight times its measure.
+    fn products(self, at: Measures) -> [u64; 4]
+        ensures value { result ≡ products self «at» }
+        ensures bound { Each (λ n. n ≤ 65535000) result }
+    {
+        [
+            product(self.w1, at.m1),
+            product(self.w2, at.m2),
+            product(self.w3, at.m3),
+            product(self.w4, at.m4),
+        ]
     }
 }
 
@@ -61,8 +71,8 @@ impl Ranking for WeightedSum {
     ghost bounded = { λ s p h. sum_below s.weights p h };
 
     fn rank(&self, at: Measures) -> u64 {
-        let w = self.weights;
-        product(w.w1, at.m1) + product(w.w2, at.m2) + product(w.w3, at.m3) + product(w.w4, at.m4)
+        let [first, second, third, fourth] = self.weights.products(at);
+        first + second + third + fourth
     }
 }
 
@@ -74,10 +84,8 @@ impl Ranking for LargestProduct {
     ghost bounded = { λ s p h. largest_below s.weights p h };
 
     fn rank(&self, at: Measures) -> u64 {
-        let w = self.weights;
-        let front = product(w.w1, at.m1).max(product(w.w2, at.m2));
-        let back = product(w.w3, at.m3).max(product(w.w4, at.m4));
-        front.max(back)
+        let [first, second, third, fourth] = self.weights.products(at);
+        first.max(second).max(third.max(fourth))
     }
 }
 

@@ -1,6 +1,5 @@
 -- From what was read and printed to what is reported.
-use Rattle.std.proofs.Common.{◌≡◌, ℕ, ◌-◌, List, take, Some, None, Ok, Err, Result, sym, refl, ap, ◌∙◌, subst}
-use native.Mathlib.Nat.{sub-zero}
+use Rattle.std.proofs.Common.{◌≡◌, ℕ, List, take, Some, None, Ok, Err, Result, sym, refl, ap, ◌∙◌, subst}
 use Rattle.stations.specs.declared.fault.Fault.{Fault}
 use Rattle.stations.specs.declared.station.Station.{Station}
 use Rattle.stations.specs.Rows.{most_stations}
@@ -11,8 +10,7 @@ use Rattle.logs.specs.Reading.{Accepted}
 use Rattle.logs.specs.Rendering.{Rendered}
 use Rattle.logs.proofs.ReadAs.{read_as}
 use Rattle.printing.specs.Printed.{listing, refusal, refused_or, Printed}
-use Rattle.reports.specs.declared.outcome.Report.TheVariants.{Done}
-use Rattle.reports.specs.Reports.{answer_lines, report_lines, answered, Reported}
+use Rattle.reports.specs.Reports.{answer_lines, report_lines, answered, Tells, Reported}
 
 module _ {text : List ℕ} {before after : List Station} {log : Log} (a : Accepted text before after log) where
   abbrev rendered : Rendered most_stations text
@@ -26,17 +24,14 @@ module _ {text : List ℕ} {before after : List Station} {log : Log} (a : Accept
   }
 
   module _ (was is : List ℕ) where
-    printed : (r : Result ℕ Fault) → Printed (answer_lines log.ranking log.question (take (log.count - 0) after)) was is r → Printed (answer_lines log.ranking log.question (take log.count after)) was is r
-    printed r p = subst (λ n. Printed (answer_lines log.ranking log.question (take n after)) was is r) (sub-zero log.count) p
+    pub reported_done : (n : ℕ) → Printed (answer_lines log.ranking log.question (take log.count after)) was is (Ok n) → Tells text was is None n
+    reported_done n p = (rendered, p)
 
-    pub reported_done : (n : ℕ) → Printed (answer_lines log.ranking log.question (take (log.count - 0) after)) was is (Ok n) → Reported text was is (Ok (Done n))
-    reported_done n p = (rendered, printed (Ok n) p)
-
-    pub reported_short : (f : Fault) → Printed (answer_lines log.ranking log.question (take (log.count - 0) after)) was is (Err f) → Reported text was is (Err f)
-    reported_short f p = (answer_lines log.ranking log.question (take log.count after), answered rendered refl, printed (Err f) p)
+    pub reported_short : (f : Fault) → Printed (answer_lines log.ranking log.question (take log.count after)) was is (Err f) → Reported text was is (Err f)
+    reported_short f p = (answer_lines log.ranking log.question (take log.count after), answered rendered refl, p)
 
 -- the answer to an accepted log is what its bytes say is printed
-pub lines_answered : {text : List ℕ} {before after : List Station} {log : Log} (a : Accepted text before after log) → log_fault most_stations text ≡ None → (was is : List ℕ) (r : Result ℕ Fault) → Printed (answer_lines log.ranking log.question (take (log.count - 0) after)) was is r → Printed (report_lines text) was is r
+pub lines_answered : {text : List ℕ} {before after : List Station} {log : Log} (a : Accepted text before after log) → log_fault most_stations text ≡ None → (was is : List ℕ) (r : Result ℕ Fault) → Printed (answer_lines log.ranking log.question (take log.count after)) was is r → Printed (report_lines text) was is r
 lines_answered {text} a none was is r p =
     subst (λ bytes. Printed bytes was is r)
     (sym (ap (λ o. refused_or o (listing (score_in text) (answer (score_in text) (question_in text) (row_in text)))) none ∙ read_as a (λ rank q row. listing rank (answer rank q row)))) p

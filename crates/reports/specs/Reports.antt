@@ -1,5 +1,5 @@
 -- What is printed of a log's text.
-use Rattle.std.specs.Prelude.{◌≡◌, ℕ, List, Some, Ok, Err, Result}
+use Rattle.std.specs.Prelude.{◌≡◌, ℕ, List, Some, None, Ok, Err, Option, Result}
 use Rattle.stations.specs.declared.fault.Fault.{Fault}
 use Rattle.stations.specs.declared.station.Station.{Station}
 use Rattle.stations.specs.declared.question.Question.{Question}
@@ -9,9 +9,9 @@ use Rattle.rankings.specs.declared.weights.Ranker.{Ranker}
 use Rattle.rankings.specs.Scores.{ranker_score}
 use Rattle.logs.specs.Checks.{log_fault, score_in, question_in, row_in}
 use Rattle.logs.specs.Rendering.{Rendered}
+use Rattle.printing.specs.declared.report.Report.{Report}
+use Rattle.printing.specs.Reports.{length_of}
 use Rattle.printing.specs.Printed.{listing, refusal, refused_or, Printed}
-use Rattle.reports.specs.declared.outcome.Report.{Report}
-use Rattle.reports.specs.declared.outcome.Report.TheVariants.{Done, Refused}
 
 -- the answer over a row, as it is printed
 abbrev pub answer_lines : Ranker → Question → List Station → List ℕ
@@ -26,10 +26,14 @@ pub data Printout (text bytes : List ℕ) : Type 0 where
   answered : (l : Rendered most_stations text) → bytes ≡ listed l → Printout text bytes
   refused : (f : Fault) → log_fault most_stations text ≡ Some f → bytes ≡ refusal f → Printout text bytes
 
+-- n bytes are printed: of the answer to the log that the text renders, or of the refusal, which is the text's first
+abbrev pub Tells : List ℕ → List ℕ → List ℕ → Option Fault → ℕ → Type 0
+Tells text was is None n = (l : Rendered most_stations text) × Printed (listed l) was is (Ok n)
+Tells text was is (Some f) n = (log_fault most_stations text ≡ Some f) × Printed (refusal f) was is (Ok n)
+
 -- the report says which of the two was printed, and how many bytes; a buffer that is too short for them is refused
 abbrev pub Reported : List ℕ → List ℕ → List ℕ → Result Report Fault → Type 0
-Reported text was is (Ok (Done n)) = (l : Rendered most_stations text) × Printed (listed l) was is (Ok n)
-Reported text was is (Ok (Refused n)) = (f : Fault) × (log_fault most_stations text ≡ Some f) × Printed (refusal f) was is (Ok n)
+Reported text was is (Ok r) = Tells text was is r.refusal r.len
 Reported text was is (Err e) = (bytes : List ℕ) × Printout text bytes × Printed bytes was is (Err e)
 
 -- what is printed of a text, from its bytes alone: its refusal, or the answer to its question over its row
@@ -38,6 +42,5 @@ report_lines text = refused_or (log_fault most_stations text) (listing (score_in
 
 -- how many bytes were printed, of either
 abbrev pub length_in : Result Report Fault → Result ℕ Fault
-length_in (Ok (Done n)) = Ok n
-length_in (Ok (Refused n)) = Ok n
+length_in (Ok r) = Ok (length_of r)
 length_in (Err f) = Err f

@@ -4,7 +4,7 @@ use native.Mathlib.Nat.{sub-zero}
 use Rattle.stations.specs.declared.station.Station.{Station}
 use Rattle.books.specs.Books.{dead}
 use Rattle.rolls.specs.Rolls.{pages_of, top_level, pages_to, page_count, pages_from, roll_book}
-use Rattle.rolls.specs.Places.{Stands, Among, Sought}
+use Rattle.rolls.specs.Places.{StandsAt, Among, Sought}
 use Rattle.rolls.proofs.Pages.{first-at, later-at}
 use Rattle.rolls.proofs.Counts.{count-few}
 
@@ -37,7 +37,7 @@ module _ (row : List Station) (page : ℕ) where
     holds = s.holds ∙ later-at row l first (page - first) (omega arith) ∙ ap (λ i. get_or (pages_from row l (first + pages_of (length row) (suc l))) i dead) (omega arith);
   }
 
-  pub found : (l first : ℕ) → Among row page l first → page < first + pages_of (length row) l → Stands row page (record { level = l; index = page - first; below = first + pages_of (length row) l })
+  pub found : (l first : ℕ) → Among row page l first → page < first + pages_of (length row) l → StandsAt row page l (page - first) (first + pages_of (length row) l)
   found l first s h = record {
     low = s.low;
     there = omega (arith, s.from);

@@ -37,12 +37,6 @@ pages-by-span n (suc zero) h = omega arith
 pages-by-span n (suc (suc zero)) h = omega arith
 pages-by-span n (suc (suc (suc l))) h = absurd (omega arith)
 
-pub span_most : (l s : ℕ) → l ≤ 2 → s ≡ span l → s ≤ 1728
-span_most zero s h e = omega arith
-span_most (suc zero) s h e = omega arith
-span_most (suc (suc zero)) s h e = omega arith
-span_most (suc (suc (suc l))) s h e = absurd (omega arith)
-
 -- a page begins inside the row
 pub starts-inside : (n l i s : ℕ) → 1 ≤ n → i < pages_of n l → s ≡ span l → i * s < n
 starts-inside n l i s some h e = rw e (omega (arith, spans_no_more n l some, mul-le-mul_right (span l) h, suc-mul i (span l)))
@@ -59,9 +53,6 @@ at_top n P zeroth first second =
 
 pub top-low : (n : ℕ) → top_level n ≤ 2
 top-low n = at_top n (λ l. l ≤ 2) (λ _. omega arith) (λ _ _. omega arith) (λ _. omega arith)
-
-pub top-some : (n l : ℕ) → l ≤ top_level n → (l ≡ 0 → ⊥) → 1 ≤ n
-top-some n l = at_top n (λ t. l ≤ t → (l ≡ 0 → ⊥) → 1 ≤ n) (λ _ h ne. absurd (ne (omega arith))) (λ other _ h ne. omega arith) (λ other h ne. omega arith)
 
 pub top-single : (n : ℕ) → n ≤ 1152 → pages_of n (top_level n) ≡ 1
 top-single n h = at_top n (λ l. pages_of n l ≡ 1) (λ e. e) (λ _ e. e) (λ ne. omega arith)

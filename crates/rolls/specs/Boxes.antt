@@ -1,12 +1,10 @@
 -- The least box around stations.
-use Rattle.std.specs.Prelude.{ℕ, min, max, List, [], ◌∷◌}
+use Rattle.std.specs.Prelude.{min, max, List, [], ◌∷◌}
+use Rattle.std.specs.List.{fold}
 use Rattle.stations.specs.declared.measures.Measures.{Measures}
 use Rattle.stations.specs.declared.station.Station.{Station}
 use Rattle.stations.specs.declared.region.Region.{Region}
-
--- measure by measure, by f
-abbrev pub both : (ℕ → ℕ → ℕ) → Measures → Measures → Measures
-both f p q = record { m1 = f p.m1 q.m1; m2 = f p.m2 q.m2; m3 = f p.m3 q.m3; m4 = f p.m4 q.m4 }
+use Rattle.stations.specs.Beating.{both}
 
 -- the box that holds only these measures
 abbrev pub point : Measures → Region
@@ -18,8 +16,7 @@ widen box p = record { low = both min box.low p; high = both max box.high p }
 
 -- the same for one station after the other
 abbrev pub widen_all : Region → List Station → Region
-widen_all box [] = box
-widen_all box (s ∷ ss) = widen_all (widen box s.at) ss
+widen_all = fold (λ box s. widen box s.at)
 
 -- the least box around stations: for each measure the least and the greatest. Around no stations there is none, and this is the box at the corner
 abbrev pub around : List Station → Region

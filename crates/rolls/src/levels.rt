@@ -40,7 +40,7 @@ pub(crate) fn page_count(len: usize) -> usize
     ensures { result ≡ page_count len }
 {
     let mut pages = 0;
-    for level in 0..top_level(len) + 1 {
+    for level in 0..=top_level(len) {
         pages += pages_of(len, level);
     }
     pages

@@ -12,15 +12,11 @@ mod showing;
 pub use roll::Roll;
 
 // A sound row makes a lawful and whole book of least boxes that holds the row's stations.
-pub fn rows_make_books() -> u8
+pub fn rows_make_books()
     ensures { RowsMakeBooks }
-{
-    0
-}
+{}
 
 // How many pages rows make, where a page or a level is added.
-pub fn rows_make_pages() -> u8
+pub fn rows_make_pages()
     ensures { RowsMakePages }
-{
-    0
-}
+{}

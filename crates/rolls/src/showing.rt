@@ -1,108 +1,80 @@
 // The pages of a roll, as a source gives them.
-ghost use Rattle.std.specs.Prelude.{◌≡◌, suc, ◌<◌, ◌≤◌, length};
-ghost use Rattle.stations.specs.Rows.{most_stations};
+ghost use Rattle.std.specs.Prelude.{◌≡◌, ◌-◌, ◌<◌, length};
 ghost use Rattle.sources.specs.Sources.{Shows};
-ghost use Rattle.rolls.specs.Rolls.{part, span as span_of, pages_of, top_level, page_count, child as child_of, page_at};
+ghost use Rattle.rolls.specs.Rolls.{part, span as span_of, pages_of, child as child_of, page_at};
 
 use crate::boxes::around;
 use crate::levels::{pages_of, span};
 use crate::place::Place;
+use arrayvec::ArrayVec;
 use books::{Child, Entry};
 use sources::{MOST_ENTRIES, Page};
-use stations::{Measures, Station};
+use stations::Station;
 
-// What stands past the last entry of a page; nobody reads it.
-const NOTHING: Entry = Entry::Station(Station {
-    number: 0,
-    at: Measures {
-        m1: 0,
-        m2: 0,
-        m3: 0,
-        m4: 0,
-    },
-});
-
-// The page of level 0 at the index.
-fn leaf(row: &[Station], index: usize) -> Page
-    requires index_bound { index < pages_of (length row.now) 0 }
-    requires row_len_bound { length row.now ≤ most_stations }
-    ensures { Shows (page_at row.now 0 0 index) result }
-{
-    let from = index * MOST_ENTRIES;
-    let len = (row.len() - from).min(MOST_ENTRIES);
-    let mut entries = [NOTHING; MOST_ENTRIES];
-    for i in 0..len {
-        entries[i] = Entry::Station(row[from + i]);
+impl<'a> Place<'a> {
+    // The page at the place.
+    pub(crate) fn page(&self) -> Page
+        ensures { Shows (page_at self.now.row.now self.now.level self.now.below self.now.index) result }
+    {
+        if self.level == 0 {
+            self.leaf()
+        } else {
+            self.node()
+        }
     }
-    Page {
-        level: 0,
-        len,
-        entries,
-    }
-}
 
-// The stations below the page of the level at the index.
-fn spanned(row: &[Station], level: usize, index: usize) -> &[Station]
-    requires some { 1 ≤ length row.now }
-    requires few { length row.now ≤ most_stations }
-    requires low { level ≤ 2 }
-    requires there { index < pages_of (length row.now) level }
-    ensures { result.now ≡ part (span_of level) row.now index }
-{
-    let places = span(level);
-    let from = index * places;
-    let end = (from + places).min(row.len());
-    &row[from..end]
-}
-
-// That page as the level above names it, where `first` is the number of the level's first page.
-fn child(row: &[Station], level: usize, first: usize, index: usize) -> Child
-    requires some { 1 ≤ length row.now }
-    requires few { length row.now ≤ most_stations }
-    requires low { level ≤ 2 }
-    requires there { index < pages_of (length row.now) level }
-    requires near { first ≤ 105 }
-    ensures { result ≡ child_of row.now level first index }
-{
-    Child {
-        page: (first + index) as u32,
-        bounds: around(spanned(row, level, index)),
+    // A page of stations.
+    fn leaf(&self) -> Page
+        requires { self.now.level ≡ 0 }
+        ensures { Shows (page_at self.now.row.now 0 0 self.now.index) result }
+    {
+        let from = self.index * MOST_ENTRIES;
+        let end = (from + MOST_ENTRIES).min(self.row.len());
+        let mut entries = ArrayVec::new();
+        for station in &self.row[from..end] {
+            entries.push(Entry::Station(*station));
+        }
+        Page { level: 0, entries }
     }
-}
 
-// The page of the level above `level` at the index, where `below` is the number of the first page that it can name.
-fn node(row: &[Station], level: usize, below: usize, index: usize) -> Page
-    requires some { 1 ≤ length row.now }
-    requires few { length row.now ≤ most_stations }
-    requires low { level ≤ 1 }
-    requires there { index < pages_of (length row.now) (suc level) }
-    requires near { below ≤ 105 }
-    ensures { Shows (page_at row.now (suc level) below index) result }
-{
-    let from = index * MOST_ENTRIES;
-    let len = (pages_of(row.len(), level) - from).min(MOST_ENTRIES);
-    let mut entries = [NOTHING; MOST_ENTRIES];
-    for i in 0..len {
-        entries[i] = Entry::Page(child(row, level, below, from + i));
+    // A page that names pages of the level below. They are made here one by one, and stand nowhere to be gone over.
+    fn node(&self) -> Page
+        requires { 0 < self.now.level }
+        ensures { Shows (page_at self.now.row.now self.now.level self.now.below self.now.index) result }
+    {
+        let from = self.index * MOST_ENTRIES;
+        let end = (from + MOST_ENTRIES).min(pages_of(self.row.len(), self.level - 1));
+        let mut entries = ArrayVec::new();
+        for index in from..end {
+            entries.push(Entry::Page(self.child(index)));
+        }
+        Page {
+            level: self.level as u8,
+            entries,
+        }
     }
-    Page {
-        level: level as u8 + 1,
-        len,
-        entries,
-    }
-}
 
-// The page at a place.
-pub(crate) fn page_at(row: &[Station], place: Place) -> Page
-    requires few { length row.now ≤ most_stations }
-    requires low { place.level ≤ top_level (length row.now) }
-    requires there { place.index < pages_of (length row.now) place.level }
-    requires near { place.below ≤ page_count (length row.now) }
-    ensures { Shows (page_at row.now place.level place.below place.index) result }
-{
-    if place.level == 0 {
-        leaf(row, place.index)
-    } else {
-        node(row, place.level - 1, place.below, place.index)
+    // The page of the level below at the index, as this level names it.
+    fn child(&self, index: usize) -> Child
+        requires above { 0 < self.now.level }
+        requires there { index < pages_of (length self.now.row.now) (self.now.level - 1) }
+        ensures { result ≡ child_of self.now.row.now (self.now.level - 1) self.now.below index }
+    {
+        Child {
+            page: (self.below + index) as u32,
+            bounds: around(self.spanned(index)),
+        }
+    }
+
+    // The stations below that page.
+    fn spanned(&self, index: usize) -> &'a [Station]
+        requires above { 0 < self.now.level }
+        requires there { index < pages_of (length self.now.row.now) (self.now.level - 1) }
+        ensures { result.now ≡ part (span_of (self.now.level - 1)) self.now.row.now index }
+    {
+        let places = span(self.level - 1);
+        let from = index * places;
+        let end = (from + places).min(self.row.len());
+        &self.row[from..end]
     }
 }

@@ -12,7 +12,7 @@ use sources::PageSource;
 
 // Makes a call. What it answers is in the history.
 pub fn make<S: PageSource, R: Ranking>(run: &mut Run<S, R>, call: Call)
-    ensures { (rank : Measures → ℕ) (b : Book) (calls : List Call) → Made S.book S.meter R.score rank b calls run.old → Made S.book S.meter R.score rank b (calls ++ call ∷ []) run.new }
+    ensures { (rank : Measures → ℕ) (b : Book) (calls : List Call) → Made S.PageSource R.Ranking rank b calls run.old → Made S.PageSource R.Ranking rank b (calls ++ call ∷ []) run.new }
 {
     match call {
         Call::Start(question) => {
@@ -29,7 +29,7 @@ pub fn make<S: PageSource, R: Ranking>(run: &mut Run<S, R>, call: Call)
 
 // Makes the calls on a new run, and gives it back as they leave it: with all that is promised of it.
 pub fn play<S: PageSource, R: Ranking>(source: S, ranking: R, calls: &[Call]) -> Run<S, R>
-    ensures { Played S.book S.meter R.score (R.score ranking) (S.book source) calls.now result }
+    ensures { Played S.PageSource R.Ranking (R.score ranking) (S.book source) calls.now result }
 {
     let mut run = Run::new(source, ranking);
     for call in calls {

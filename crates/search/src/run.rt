@@ -1,7 +1,7 @@
 ghost use Rattle.std.specs.Prelude.{◌≤◌};
 
-use stations::{Fault, Question};
-use waiting::{Listed, Queue};
+use stations::Fault;
+use waiting::{Listed, Query, Queue};
 
 // The most pages that a source has.
 pub const MOST_PAGES: usize = 256;
@@ -21,8 +21,7 @@ pub enum Phase {
 pub struct Run<S, R> {
     pub(crate) waiting: Queue,
     pub(crate) source: S,
-    pub(crate) ranking: R,
-    pub(crate) question: Question,
+    pub(crate) query: Query<R>,
     pub(crate) listed: Listed,
     pub(crate) opened: usize,
     pub(crate) phase: Phase,

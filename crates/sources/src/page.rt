@@ -1,15 +1,12 @@
-ghost use Rattle.std.specs.Prelude.{◌≤◌};
-
+use arrayvec::ArrayVec;
 use books::Entry;
 
 // The most entries of a page.
 pub const MOST_ENTRIES: usize = 12;
 
-// A live page as a source gives it: the first `len` entries count.
-#[derive(Clone, Copy)]
+// A live page as a source gives it.
+#[derive(Drop)]
 pub struct Page {
     pub level: u8,
-    pub len: usize,
-    pub entries: [Entry; 12],
-    ghost few: { len ≤ 12 },
+    pub entries: ArrayVec<Entry, MOST_ENTRIES>,
 }

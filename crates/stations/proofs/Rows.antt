@@ -1,11 +1,11 @@
 -- Steps along a row of stations.
-use Rattle.std.proofs.Common.{◌≡◌, ℕ, ◌+◌, ◌<◌, true, false, eqb, ◌⊎◌, List, [], ◌∷◌, ◌++◌, length, get_or, take, drop, Some, sym, ap, ◌∙◌, inl, inr, ⊎_elim, add-one, eq-eqb, ne_eqb}
+use Rattle.std.proofs.Common.{◌≡◌, ℕ, ◌+◌, ◌<◌, true, false, ◌⊎◌, List, [], ◌∷◌, ◌++◌, length, get_or, take, drop, Some, sym, ap, ◌∙◌, inl, inr, ⊎_elim, add-one}
 use Rattle.std.proofs.lemmas.Bool.{eqb-true, or_cases, or_left, or_right}
 use Rattle.std.proofs.lemmas.List.{at_drop_more, take_more}
 use Rattle.stations.specs.declared.station.Station.{Station}
-use Rattle.stations.specs.declared.fault.Code.TheVariants.{OutOfRange, RepeatedNumber}
+use Rattle.stations.specs.declared.fault.Code.TheVariants.{RepeatedNumber}
 use Rattle.stations.specs.Faults.{fault, refuse_if, or_else}
-use Rattle.stations.specs.Rows.{holds_number, zero_fault, repeat_fault}
+use Rattle.stations.specs.Rows.{holds_number, repeat_fault}
 
 -- what a read past the end would give
 abbrev pub nowhere : Station
@@ -17,16 +17,6 @@ holds-last n [] s h = ⊎_elim (λ e. inr (eqb-true _ _ e)) (λ e. inl e) (or_ca
 holds-last n (t ∷ ts) s h = ⊎_elim (λ e. inl (or_left _ _ e)) (λ later. ⊎_elim (λ e. inl (or_right _ _ e)) (λ e. inr e) (holds-last n ts s later)) (or_cases _ _ h)
 
 module _ (row : List Station) (i : ℕ) (below : i < length row) where
-  -- the walk over the row as it stands at place i
-  zero-at : zero_fault i (drop i row) ≡ or_else (refuse_if (eqb (get_or row i nowhere).number 0) (fault OutOfRange i 0)) (zero_fault (i + 1) (drop (i + 1) row))
-  zero-at = at_drop_more (zero_fault i) row i nowhere below ∙ ap (λ j. or_else (refuse_if (eqb (get_or row i nowhere).number 0) (fault OutOfRange i 0)) (zero_fault j (drop (i + 1) row))) (sym (add-one i))
-
-  pub zero-found : (get_or row i nowhere).number ≡ 0 → zero_fault i (drop i row) ≡ Some (fault OutOfRange i 0)
-  zero-found e = zero-at ∙ ap (λ t. or_else (refuse_if t (fault OutOfRange i 0)) (zero_fault (i + 1) (drop (i + 1) row))) (eq-eqb _ _ e)
-
-  pub zero-passed : ((get_or row i nowhere).number ≡ 0 → ⊥) → zero_fault i (drop i row) ≡ zero_fault (i + 1) (drop (i + 1) row)
-  zero-passed n = zero-at ∙ ap (λ t. or_else (refuse_if t (fault OutOfRange i 0)) (zero_fault (i + 1) (drop (i + 1) row))) (ne_eqb _ _ n)
-
   repeat_at : repeat_fault (take i row) i (drop i row) ≡ or_else (refuse_if (holds_number (get_or row i nowhere).number (take i row)) (fault RepeatedNumber i 0)) (repeat_fault (take (i + 1) row) (i + 1) (drop (i + 1) row))
   repeat_at =
       at_drop_more (repeat_fault (take i row) i) row i nowhere below

@@ -31,3 +31,7 @@ beats p q = at_most p q && smaller p q
 
 abbrev pub sum : Measures → ℕ
 sum p = p.m1 + p.m2 + p.m3 + p.m4
+
+-- measure by measure, by f
+abbrev pub both : (ℕ → ℕ → ℕ) → Measures → Measures → Measures
+both f p q = record { m1 = f p.m1 q.m1; m2 = f p.m2 q.m2; m3 = f p.m3 q.m3; m4 = f p.m4 q.m4 }

@@ -1,5 +1,5 @@
 -- Refusals: each code has its number, and a check either refuses or does not.
-use Rattle.std.specs.Prelude.{ℕ, Bool, true, false, Some, None, Ok, Err, Option, Result}
+use Rattle.std.specs.Prelude.{ℕ, Bool, true, false, List, ◌∷◌, ◌++◌, Some, None, Ok, Err, Option, Result, decimal}
 use Rattle.stations.specs.declared.fault.Fault.{Fault}
 use Rattle.stations.specs.declared.fault.Code.{Code}
 use Rattle.stations.specs.declared.fault.Code.TheVariants.{TextTooLong, BadField, OutOfRange, TooManyStations, RepeatedNumber, ShortBuffer, BookLength, PageHeader, PageLevel, NamedPage, BoxOrder, StationNumber, OutsideBox, BandCount, RegionOrder, NoSearch, PageNumber, DeadPage, WaitingFull, ListFull}
@@ -49,3 +49,7 @@ or_else None later = later
 abbrev pub verdict : Option Fault → Result (Unit {0}) Fault
 verdict (Some f) = Err f
 verdict None = Ok tt
+
+-- a refusal as it is written: the number of its code and the two places, with a comma between two
+abbrev pub fault_text : Fault → List ℕ
+fault_text f = decimal (number_of f.code) ++ 44 ∷ decimal f.first ++ 44 ∷ decimal f.second

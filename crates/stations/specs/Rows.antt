@@ -1,5 +1,6 @@
 -- When a row of stations is refused: too many, then a number 0, then a number that repeats.
-use Rattle.std.specs.Prelude.{ℕ, suc, Bool, false, ◌||◌, List, [], ◌∷◌, ◌++◌, length, None, Option, ◌==◌, nat_lt}
+use Rattle.std.specs.Prelude.{ℕ, suc, Bool, List, [], ◌∷◌, ◌++◌, length, None, Option, ◌==◌, nat_lt}
+use Rattle.std.specs.List.{list_any}
 use Rattle.stations.specs.declared.fault.Fault.{Fault}
 use Rattle.stations.specs.declared.fault.Code.TheVariants.{OutOfRange, TooManyStations, RepeatedNumber}
 use Rattle.stations.specs.declared.station.Station.{Station}
@@ -7,8 +8,7 @@ use Rattle.stations.specs.Faults.{fault, placeless, refuse_if, or_else}
 
 -- some station of the row has the number
 abbrev pub holds_number : ℕ → List Station → Bool
-holds_number n [] = false
-holds_number n (s ∷ ss) = s.number == n || holds_number n ss
+holds_number n row = list_any (λ s. s.number == n) row
 
 -- the first station, counted from i, whose number is 0
 abbrev pub zero_fault : ℕ → List Station → Option Fault

@@ -1,11 +1,13 @@
 // Why a call refuses: a code by name, and two places.
-ghost use Rattle.std.specs.Prelude.{◌≡◌};
-ghost use Rattle.stations.specs.Faults.{number_of};
+ghost use Rattle.std.specs.Prelude.{◌≡◌, Some, decimal};
+ghost use Rattle.stations.specs.Faults.{number_of, fault, placeless, fault_text};
+
+use std::fmt;
 
 // The codes in the order of their numbers, from 1. `docs/CODES.md` says when each is given and what its places are.
 #[derive(Clone, Copy, PartialEq, Eq)]
 pub enum Code {
-    TextTooLong,
+    TextTooLong = 1,
     BadField,
     OutOfRange,
     TooManyStations,
@@ -40,27 +42,50 @@ impl Code {
     pub fn number(self) -> u8
         ensures { result ≡ number_of self }
     {
-        match self {
-            Code::TextTooLong => 1,
-            Code::BadField => 2,
-            Code::OutOfRange => 3,
-            Code::TooManyStations => 4,
-            Code::RepeatedNumber => 5,
-            Code::ShortBuffer => 6,
-            Code::BookLength => 7,
-            Code::PageHeader => 8,
-            Code::PageLevel => 9,
-            Code::NamedPage => 10,
-            Code::BoxOrder => 11,
-            Code::StationNumber => 12,
-            Code::OutsideBox => 13,
-            Code::BandCount => 14,
-            Code::RegionOrder => 15,
-            Code::NoSearch => 16,
-            Code::PageNumber => 17,
-            Code::DeadPage => 18,
-            Code::WaitingFull => 19,
-            Code::ListFull => 20,
+        self as u8
+    }
+
+    // The refusal by this code that names two places.
+    pub fn at(self, first: u32, second: u32) -> Fault
+        ensures { result ≡ fault self first second }
+    {
+        Fault {
+            code: self,
+            first,
+            second,
         }
+    }
+}
+
+// A refusal whose code says it all names the places 0 and 0.
+impl From<Code> for Fault {
+    ghost from_gives = { λ code f. f ≡ placeless code };
+
+    fn from(code: Code) -> Fault {
+        code.at(0, 0)
+    }
+}
+
+// The code is printed by its number.
+impl fmt::Display for Code {
+    ghost output = { λ code. Some (decimal (number_of code)) };
+
+    fn fmt<W: fmt::Write>(&self, f: &mut fmt::Formatter<W>) -> fmt::Result {
+        let number = self.number();
+        write!(f, "{number}")
+    }
+}
+
+// The code and the two places, as a refusal is written.
+impl fmt::Display for Fault {
+    ghost output = { λ f. Some (fault_text f) };
+
+    fn fmt<W: fmt::Write>(&self, f: &mut fmt::Formatter<W>) -> fmt::Result {
+        let Fault {
+            code,
+            first,
+            second,
+        } = self;
+        write!(f, "{code},{first},{second}")
     }
 }

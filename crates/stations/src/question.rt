@@ -18,18 +18,10 @@ impl Question {
         ensures { result ≡ verdict (question_fault self) }
     {
         if self.k < 1 || self.k > 8 {
-            return Err(Fault {
-                code: Code::BandCount,
-                first: 0,
-                second: 0,
-            });
+            return Err(Code::BandCount.into());
         }
         if !self.region.is_ordered() {
-            return Err(Fault {
-                code: Code::RegionOrder,
-                first: 0,
-                second: 0,
-            });
+            return Err(Code::RegionOrder.into());
         }
         Ok(())
     }

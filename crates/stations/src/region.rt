@@ -5,7 +5,7 @@ ghost use Rattle.stations.specs.Play.{inside};
 
 use crate::measures::Measures;
 
-#[derive(Clone, Copy, PartialEq, Eq)]
+#[derive(Clone, Copy, PartialEq, Eq, Default)]
 pub struct Region {
     pub low: Measures,
     pub high: Measures,

@@ -14,12 +14,7 @@ pub const MOST_STATIONS: usize = 1152;
 fn holds_number(row: &[Station], number: u32) -> bool
     ensures { result ≡ holds_number number row.now }
 {
-    for s in row {
-        if s.number == number {
-            return true;
-        }
-    }
-    false
+    row.iter().any(|s| s.number == number)
 }
 
 // The same, where each number of the row is marked: a number without a mark needs no look at the row.
@@ -35,13 +30,9 @@ fn check_zero(row: &[Station]) -> Result<(), Fault>
     requires { length row.now ≤ most_stations }
     ensures { result ≡ verdict (zero_fault 0 row.now) }
 {
-    for i in 0..row.len() {
-        if row[i].number == 0 {
-            return Err(Fault {
-                code: Code::OutOfRange,
-                first: i as u32,
-                second: 0,
-            });
+    for (i, station) in row.iter().enumerate() {
+        if station.number == 0 {
+            return Err(Code::OutOfRange.at(i as u32, 0));
         }
     }
     Ok(())
@@ -53,16 +44,11 @@ fn check_repeats(row: &[Station]) -> Result<(), Fault>
     ensures { result ≡ verdict (repeat_fault [] 0 row.now) }
 {
     let mut marks = Marks::new();
-    for i in 0..row.len() {
-        let number = row[i].number;
-        if is_among(&row[0..i], &marks, number) {
-            return Err(Fault {
-                code: Code::RepeatedNumber,
-                first: i as u32,
-                second: 0,
-            });
+    for (i, station) in row.iter().enumerate() {
+        if is_among(&row[..i], &marks, station.number) {
+            return Err(Code::RepeatedNumber.at(i as u32, 0));
         }
-        marks.mark(number);
+        marks.mark(station.number);
     }
     Ok(())
 }
@@ -72,11 +58,7 @@ pub fn check_row(row: &[Station]) -> Result<(), Fault>
     ensures { result ≡ verdict (row_fault row.now) }
 {
     if row.len() > MOST_STATIONS {
-        return Err(Fault {
-            code: Code::TooManyStations,
-            first: 0,
-            second: 0,
-        });
+        return Err(Code::TooManyStations.into());
     }
     check_zero(row)?;
     check_repeats(row)

@@ -5,7 +5,7 @@ use crate::key::{Key, Kind};
 use crate::measures::Measures;
 
 // A place in the well where the tester may be set, by its number and its measures.
-#[derive(Clone, Copy, PartialEq, Eq)]
+#[derive(Clone, Copy, PartialEq, Eq, Default)]
 pub struct Station {
     pub number: u32,
     pub at: Measures,

@@ -1,8 +1,9 @@
 -- What a page keeps that is not refused, and so each page of a walk that passes.
-use Rattle.std.proofs.Common.{◌≡◌, ℕ, zero, suc, ◌+◌, ◌*◌, ◌^◌, ◌<◌, ◌≤◌, Bool, true, false, cond, not, ◌&&◌, ◌||◌, eqb, leb, ◌⊎◌, List, [], ◌∷◌, length, Some, None, Option, sym, refl, ap, ◌∙◌, inl, inr, arith}
+use Rattle.std.proofs.Common.{◌≡◌, ℕ, zero, suc, ◌+◌, ◌*◌, ◌<◌, ◌≤◌, Bool, true, false, cond, List, [], ◌∷◌, length, Some, None, Option, refl, arith}
 use Rattle.std.specs.List.{range_with_len, AllByRecursion as Each}
-use Rattle.std.proofs.lemmas.Bool.{and_parts, or_cases, leb-true, eqb-false, eqb-true, not-true, not-false, cases_eq}
-use Rattle.std.proofs.lemmas.List.{append-nil}
+use Rattle.std.proofs.lemmas.Bool.{not-false}
+use Rattle.std.proofs.lemmas.Bool.Decides.{nat_tests}
+use Rattle.std.proofs.lemmas.Grind.{common_steps}
 use Rattle.std.proofs.ByRecursion.{All-map, All-weaker}
 use Rattle.std.proofs.lemmas.List.FromFn.{length-map-range_with_len}
 use Rattle.stations.specs.declared.station.Station.{Station}
@@ -11,11 +12,11 @@ use Rattle.stations.specs.Counting.{bit, count}
 use Rattle.books.specs.declared.Child.{Child}
 use Rattle.books.specs.Books.{Slot, dead, level, size, stations_on, children_on, IsLive, Inside, Nested, Fits, Filled, names, numbered}
 use Rattle.stored.specs.declared.naming.Naming.{Naming}
-use Rattle.stored.specs.Layout.{short_at, measures_at, station_at, child_at, stations_in, children_in, level_byte, count_byte, is_padded, is_marked_dead, live_slot, live}
+use Rattle.stored.specs.Layout.{measures_at, station_at, child_at, stations_in, children_in, level_byte, count_byte, live_slot, live}
 use Rattle.stored.specs.Notes.{Notes, note_of, is_named, naming, occurs, notes_after, numbers_after}
 use Rattle.stored.specs.Checks.{is_fair_header, is_below, entries_fault, page_fault}
 use Rattle.stored.specs.Loading.{is_live_at, slot_at, slots_from, visit_fault, walk_fault}
-use Rattle.stored.proofs.Counts.{never_some, both-pass, not-refused, all_of}
+use Rattle.stored.proofs.Counts.{both-pass, not-refused, all_of}
 use Rattle.stored.proofs.Passing.{HeldBy, children-pass, stations-pass}
 
 -- what the page p keeps, by what the pages before it say
@@ -37,54 +38,23 @@ pub record Fair (pages p : ℕ) (notes : Notes) (numbers : List ℕ) (s : Slot) 
   pub once : (n : ℕ) → bit (occurs n (numbers_after numbers s)) ≡ bit (occurs n numbers) + count (numbered n) (stations_on s)
 
 dead_fair : (pages p : ℕ) (notes : Notes) (numbers : List ℕ) → Fair pages p notes numbers dead
-dead_fair pages p notes numbers =
-    record {
-      levels = omega arith;
-      sizes = omega arith;
-      filled = tt;
-      after = tt;
-      fits = λ n e. tt;
-      reached = λ alive. absurd alive;
-      named = λ q. omega arith;
-      kept = λ q n e. e;
-      noted = tt;
-      long = refl;
-      ordered = tt;
-      boxes = tt;
-      measures = tt;
-      positive = tt;
-      once = λ n. let x = ap (λ ms. bit (occurs n ms)) (append-nil numbers) in omega arith;
-    }
+dead_fair pages p notes numbers = grind (arith, common_steps)
 
 -- a number in two bytes has 16 bits
-short-fits : (bytes : List ℕ) (i : ℕ) → short_at bytes i < 2 ^ 16
-short-fits bytes i = omega arith
-
 measures_fit : (bytes : List ℕ) (i : ℕ) → Ordinary (measures_at bytes i)
-measures_fit bytes i = record { in1 = short-fits bytes i; in2 = short-fits bytes (i + 2); in3 = short-fits bytes (i + 4); in4 = short-fits bytes (i + 6) }
+measures_fit bytes i = grind arith
 
 -- what a fair header says
-record Headed (p lv n : ℕ) : Type 0 where
-  low : lv ≤ 7
-  few : n ≤ 12
-  some : n ≡ 0 → (p ≡ 0) × (lv ≡ 0)
+pub record Headed (p lv n : ℕ) : Type 0 where
+  pub low : lv ≤ 7
+  pub few : n ≤ 12
+  pub some : n ≡ 0 → (p ≡ 0) × (lv ≡ 0)
 
-headed : (p : ℕ) (page : List ℕ) → is_fair_header p page ≡ true → Headed p (level_byte page) (count_byte page)
-headed p page e =
-    let a = and_parts (leb (level_byte page) 7 && leb (count_byte page) 12 && is_padded page) (not (eqb (count_byte page) 0) || (eqb p 0 && eqb (level_byte page) 0)) e in
-    let b = and_parts (leb (level_byte page) 7 && leb (count_byte page) 12) (is_padded page) a.0 in
-    let c = and_parts (leb (level_byte page) 7) (leb (count_byte page) 12) b.0 in
-    record { low = leb-true _ _ c.0; few = leb-true _ _ c.1; some = λ none. by none (or_cases _ _ a.1) }
-  where
-    by : count_byte page ≡ 0 → (not (eqb (count_byte page) 0) ≡ true) ⊎ ((eqb p 0 && eqb (level_byte page) 0) ≡ true) → (p ≡ 0) × (level_byte page ≡ 0)
-    by none (inl t) = absurd (eqb-false _ _ (not-true _ t) none)
-    by none (inr t) = let both = and_parts (eqb p 0) (eqb (level_byte page) 0) t in (eqb-true _ _ both.0, eqb-true _ _ both.1)
+pub headed : (p : ℕ) (page : List ℕ) → is_fair_header p page ≡ true → Headed p (level_byte page) (count_byte page)
+headed p page e = grind (arith, nat_tests)
 
 below-from : (nm : Option Naming) (lv : ℕ) → is_below nm lv ≡ true → (n : Naming) → nm ≡ Some n → n.level ≡ lv + 1
-below-from None lv e n is = never_some n is
-below-from (Some m) lv e n is =
-    let same : m ≡ n = cc in
-    ap (λ (k : Naming). k.level) (sym same) ∙ eqb-true _ _ e
+below-from nm lv e n is = grind arith
 
 module _ (pages p : ℕ) (notes : Notes) (numbers page : List ℕ) (fit : pages ≤ length notes) (counts : (p ≡ 0 → ⊥) → is_named notes p ≡ true) where
   -- the page, by its level
@@ -95,8 +65,8 @@ module _ (pages p : ℕ) (notes : Notes) (numbers page : List ℕ) (fit : pages 
       let long : length (stations_in page) ≡ count_byte page = length-map-range_with_len (λ i. station_at page (8 + 12 * i)) 0 (count_byte page) in
       record {
         levels = omega arith;
-        sizes = let few = h.few in omega arith;
-        filled = λ none. (h.some (sym long ∙ none)).0;
+        sizes = omega (arith, h.few);
+        filled = λ none. grind (arith, h.some);
         after = tt;
         fits = λ n is. (below n is, All-weaker (λ (t : Station). HeldBy (note_of notes p) t.at t.at) (λ (t : Station). Inside t.at n.bounds) (λ t held. let k = held n is in record { above = k.above; below = k.below }) (stations_in page) ss.held);
         reached = λ _. counts;
@@ -115,10 +85,10 @@ module _ (pages p : ℕ) (notes : Notes) (numbers page : List ℕ) (fit : pages 
       let long : length (children_in page) ≡ count_byte page = length-map-range_with_len (λ i. child_at page (8 + 18 * i)) 0 (count_byte page) in
       record {
         levels = h.low;
-        sizes = let few = h.few in omega arith;
-        filled = some (cases_eq (count_byte page) 0);
+        sizes = omega (arith, h.few);
+        filled = grind (arith, h.some);
         after = cs.after;
-        fits = λ n is. (let b = below n is in omega arith, All-weaker (λ (c : Child). HeldBy (note_of notes p) c.bounds.low c.bounds.high) (λ (c : Child). Nested c.bounds n.bounds) (λ c held. let k = held n is in record { above = k.above; below = k.below }) (children_in page) cs.held);
+        fits = λ n is. (omega (arith, below n is), All-weaker (λ (c : Child). HeldBy (note_of notes p) c.bounds.low c.bounds.high) (λ (c : Child). Nested c.bounds n.bounds) (λ c held. let k = held n is in record { above = k.above; below = k.below }) (children_in page) cs.held);
         reached = λ _. counts;
         named = cs.counted;
         kept = cs.kept;
@@ -128,12 +98,8 @@ module _ (pages p : ℕ) (notes : Notes) (numbers page : List ℕ) (fit : pages 
         boxes = All-map (λ (c : Child). Ordinary c.bounds.high) (λ i. child_at page (8 + 18 * i)) (range_with_len 0 (count_byte page)) (all_of (λ i. Ordinary (measures_at page (8 + 18 * i + 10))) (λ i. measures_fit page (8 + 18 * i + 10)) (range_with_len 0 (count_byte page)));
         measures = tt;
         positive = tt;
-        once = λ n. let x = ap (λ ms. bit (occurs n ms)) (append-nil numbers) in omega arith;
+        once = λ n. grind (arith, common_steps);
       }
-    where
-      some : (count_byte page ≡ 0) ⊎ (count_byte page ≡ 0 → ⊥) → 1 ≤ length (children_in page)
-      some (inl none) = let z = (h.some none).1 in let no_way : ⊥ = omega arith in absurd no_way
-      some (inr more) = let long : length (children_in page) ≡ count_byte page = length-map-range_with_len (λ i. child_at page (8 + 18 * i)) 0 (count_byte page) in omega arith
 
   fair_live : page_fault pages p (note_of notes p) notes numbers page ≡ None → Fair pages p notes numbers (live page)
   fair_live e =
@@ -145,11 +111,7 @@ pub fair_visit : (pages p : ℕ) (notes : Notes) (numbers page : List ℕ) → p
 fair_visit pages p notes numbers page fit e = by (is_live_at notes p page) refl e
   where
     by : (m : Bool) → is_live_at notes p page ≡ m → cond m (page_fault pages p (note_of notes p) notes numbers page) None ≡ None → Fair pages p notes numbers (cond m (live page) dead)
-    by true is passes = fair_live pages p notes numbers page fit (λ below. counts below (or_cases _ _ (and_parts (eqb p 0 || is_named notes p) (not (is_marked_dead page)) is).0)) passes
-      where
-        counts : (p ≡ 0 → ⊥) → (eqb p 0 ≡ true) ⊎ (is_named notes p ≡ true) → is_named notes p ≡ true
-        counts below (inl t) = absurd (below (eqb-true _ _ t))
-        counts below (inr t) = t
+    by true is passes = fair_live pages p notes numbers page fit (λ below. grind arith) passes
     by false is passes = dead_fair pages p notes numbers
 
 -- each of these slots is fair, from page p on
@@ -162,6 +124,4 @@ fair_walk pages p notes numbers [] fit e = tt
 fair_walk pages p notes numbers (page ∷ rest) fit e =
     let parts = both-pass _ _ e in
     let fair = fair_visit pages p notes numbers page fit parts.0 in
-    let long = fair.long in
-    let fit' : pages ≤ length (notes_after notes (slot_at notes p page)) = omega arith in
-    (fair, fair_walk pages (p + 1) (notes_after notes (slot_at notes p page)) (numbers_after numbers (slot_at notes p page)) rest fit' parts.1)
+    (fair, fair_walk pages (p + 1) (notes_after notes (slot_at notes p page)) (numbers_after numbers (slot_at notes p page)) rest (omega (arith, fair.long)) parts.1)

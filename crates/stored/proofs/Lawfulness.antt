@@ -1,7 +1,7 @@
 -- Bytes that are not refused spell a lawful book.
-use Rattle.std.proofs.Common.{◌≡◌, ℕ, zero, suc, ◌+◌, ◌-◌, ◌%◌, ◌<◌, ◌≤◌, true, false, not, ◌||◌, eqb, ltb, ◌⊎◌, List, [], ◌∷◌, length, get_or, is_some, Some, None, Option, sym, refl, ap, ◌∙◌, subst, inl, inr, arith}
+use Rattle.std.proofs.Common.{◌≡◌, ℕ, zero, suc, ◌+◌, ◌-◌, ◌<◌, ◌≤◌, true, false, ◌⊎◌, List, [], ◌∷◌, length, get_or, is_some, Some, None, Option, sym, refl, ap, ◌∙◌, subst, inl, inr, arith}
 use Rattle.std.specs.List.{flat_map, AllByRecursion as Each}
-use Rattle.std.proofs.lemmas.Bool.{or_parts, ltb-false, cases_lt}
+use Rattle.std.proofs.lemmas.Bool.{cases_lt}
 use Rattle.std.proofs.lemmas.List.{get_or-replicate, get_or_past}
 use Rattle.std.proofs.ByRecursion.{All-append}
 use Rattle.std.proofs.lemmas.List.FromFn.{length-map-range_with_len}
@@ -10,8 +10,8 @@ use Rattle.books.specs.declared.Child.{Child}
 use Rattle.books.specs.Books.{Slot, dead, Book, slot, level, size, stations_on, children_on, IsLive, Fits, Filled, Lawful, names, numbered, named, stations}
 use Rattle.stored.specs.declared.naming.Naming.{Naming}
 use Rattle.stored.specs.Notes.{Notes, no_notes, note_of, is_named, naming, notes_after, numbers_after, occurs}
-use Rattle.stored.specs.Loading.{page_count, page_bytes, pages_in, slot_at, slots_from, length_fault, load_fault, spelled_book}
-use Rattle.stored.proofs.Counts.{count_append, bit_le, all_both, both-pass, not-refused}
+use Rattle.stored.specs.Loading.{page_count, page_bytes, pages_in, slot_at, slots_from, walk_fault, length_fault, load_fault, spelled_book}
+use Rattle.stored.proofs.Counts.{count_append, bit_le, all_both, both-pass}
 use Rattle.stored.proofs.Fairness.{Fair, FairFrom, fair_walk}
 
 -- there is a slot for each page
@@ -24,8 +24,7 @@ module _ (pages : ℕ) where
   each-place : (P : ℕ → Slot → Type 0) → ((q : ℕ) → P q dead) → ((p : ℕ) (notes : Notes) (numbers : List ℕ) (s : Slot) → Fair pages p notes numbers s → P p s)
       → (p : ℕ) (notes : Notes) (numbers : List ℕ) (ss : List Slot) → FairFrom pages p notes numbers ss → (i q : ℕ) → p + i ≡ q → P q (get_or ss i dead)
   each-place P past at p notes numbers [] f i q e = past q
-  each-place P past at p notes numbers (s ∷ ss) f zero q e =
-      let same : p ≡ q = omega arith in subst (λ k. P k s) same (at p notes numbers s f.0)
+  each-place P past at p notes numbers (s ∷ ss) f zero q e = subst (λ k. P k s) (omega arith) (at p notes numbers s f.0)
   each-place P past at p notes numbers (s ∷ ss) f (suc i) q e =
       each-place P past at (p + 1) (notes_after notes s) (numbers_after numbers s) ss f.1 i q (omega arith)
 
@@ -39,8 +38,7 @@ module _ (pages : ℕ) where
   -- a page that was named fits how it was named
   noted-fits : (p : ℕ) (notes : Notes) (numbers : List ℕ) (ss : List Slot) → FairFrom pages p notes numbers ss → (i q : ℕ) → p + i ≡ q → (n : Naming) → note_of notes q ≡ Some n → Fits n.level n.bounds (get_or ss i dead)
   noted-fits p notes numbers [] f i q e n is = tt
-  noted-fits p notes numbers (s ∷ ss) f zero q e n is =
-      let same : q ≡ p = omega arith in f.0.fits n (sym (ap (note_of notes) same) ∙ is)
+  noted-fits p notes numbers (s ∷ ss) f zero q e n is = f.0.fits n (subst (λ k. note_of notes k ≡ Some n) (omega arith) is)
   noted-fits p notes numbers (s ∷ ss) f (suc i) q e n is =
       noted-fits (p + 1) (notes_after notes s) (numbers_after numbers s) ss f.1 i q (omega arith) n (f.0.kept q n is)
 
@@ -68,30 +66,20 @@ module _ (pages : ℕ) where
   all-reached p notes numbers [] f i q e alive below = absurd alive
   all-reached p notes numbers (s ∷ ss) f zero q e alive below =
       let same : q ≡ p = omega arith in
-      let one : is_named notes p ≡ true = f.0.reached alive (λ z. below (same ∙ z)) in
-      let x = ap bit (ap (is_named notes) same ∙ one) in
-      omega arith
+      let one : is_named notes q ≡ true = ap (is_named notes) same ∙ f.0.reached alive (λ z. below (same ∙ z)) in
+      omega (arith, ap bit one)
   all-reached p notes numbers (s ∷ ss) f (suc i) q e alive below =
-      let h = all-reached (p + 1) (notes_after notes s) (numbers_after numbers s) ss f.1 i q (omega arith) alive below in
-      let a = f.0.named q in
-      let d = count_append (names q) (children_on s) (named ss) in
-      omega arith
+      omega (arith, all-reached (p + 1) (notes_after notes s) (numbers_after numbers s) ss f.1 i q (omega arith) alive below, f.0.named q, count_append (names q) (children_on s) (named ss))
 
   all-named-once : (p : ℕ) (notes : Notes) (numbers : List ℕ) (ss : List Slot) → FairFrom pages p notes numbers ss → (q : ℕ) → bit (is_named notes q) + count (names q) (named ss) ≤ 1
-  all-named-once p notes numbers [] f q = let h = bit_le (is_named notes q) in omega arith
+  all-named-once p notes numbers [] f q = omega (arith, bit_le (is_named notes q))
   all-named-once p notes numbers (s ∷ ss) f q =
-      let h = all-named-once (p + 1) (notes_after notes s) (numbers_after numbers s) ss f.1 q in
-      let a = f.0.named q in
-      let d = count_append (names q) (children_on s) (named ss) in
-      omega arith
+      omega (arith, all-named-once (p + 1) (notes_after notes s) (numbers_after numbers s) ss f.1 q, f.0.named q, count_append (names q) (children_on s) (named ss))
 
   all-numbered-once : (p : ℕ) (notes : Notes) (numbers : List ℕ) (ss : List Slot) → FairFrom pages p notes numbers ss → (n : ℕ) → bit (occurs n numbers) + count (numbered n) (stations ss) ≤ 1
-  all-numbered-once p notes numbers [] f n = let h = bit_le (occurs n numbers) in omega arith
+  all-numbered-once p notes numbers [] f n = omega (arith, bit_le (occurs n numbers))
   all-numbered-once p notes numbers (s ∷ ss) f n =
-      let h = all-numbered-once (p + 1) (notes_after notes s) (numbers_after numbers s) ss f.1 n in
-      let a = f.0.once n in
-      let d = count_append (numbered n) (stations_on s) (stations ss) in
-      omega arith
+      omega (arith, all-numbered-once (p + 1) (notes_after notes s) (numbers_after numbers s) ss f.1 n, f.0.once n, count_append (numbered n) (stations_on s) (stations ss))
 
 -- at first nothing is named
 pub none_named : (q : ℕ) → is_named no_notes q ≡ false
@@ -113,13 +101,13 @@ module _ (b : Book) (fair : FairFrom (length b) 0 no_notes [] b) where
         filled = here Filled (λ q. tt) (λ p notes numbers s f. f.filled);
         after = here (λ p s. Each (λ c. (p < c.page) × (c.page < length b)) (children_on s)) (λ q. tt) (λ p notes numbers s f. f.after);
         fits = λ p. children_fit (length b) b 0 no_notes [] b (λ i q e. let same : i ≡ q = omega arith in ap (slot b) same) fair p p (omega arith);
-        reached = λ p alive below. let h = all-reached (length b) 0 no_notes [] b fair p p (omega arith) alive below in let z = ap bit (none_named p) in omega arith;
-        named_once = λ p. let h = all-named-once (length b) 0 no_notes [] b fair p in omega arith;
+        reached = λ p alive below. omega (arith, all-reached (length b) 0 no_notes [] b fair p p (omega arith) alive below, ap bit (none_named p));
+        named_once = λ p. omega (arith, all-named-once (length b) 0 no_notes [] b fair p);
         ordered = each_part (length b) children_on _ (λ p notes numbers s f. f.ordered) 0 no_notes [] b fair;
         boxes = each_part (length b) children_on _ (λ p notes numbers s f. f.boxes) 0 no_notes [] b fair;
         measures = each_part (length b) stations_on _ (λ p notes numbers s f. f.measures) 0 no_notes [] b fair;
         numbers = each_part (length b) stations_on _ (λ p notes numbers s f. f.positive) 0 no_notes [] b fair;
-        numbered_once = λ n. let h = all-numbered-once (length b) 0 no_notes [] b fair n in omega arith;
+        numbered_once = λ n. omega (arith, all-numbered-once (length b) 0 no_notes [] b fair n);
       }
 
 module _ (bytes : List ℕ) where
@@ -129,12 +117,12 @@ module _ (bytes : List ℕ) where
 
   -- a length that is not refused
   pub fair_length : length_fault bytes ≡ None → (1 ≤ page_count bytes) × (page_count bytes ≤ 256)
-  fair_length e =
-      let a = or_parts (not (eqb (length bytes % 256) 0) || ltb (length bytes) 256) (ltb 65536 (length bytes)) (not-refused _ _ e) in
-      let b = or_parts (not (eqb (length bytes % 256) 0)) (ltb (length bytes) 256) a.0 in
-      let low = ltb-false _ _ b.1 in
-      let high = ltb-false _ _ a.1 in
-      (omega arith, omega arith)
+  fair_length e = grind arith
+
+  -- neither the length nor a page is refused
+  pub both_load : length_fault bytes ≡ None → walk_fault (page_count bytes) 0 no_notes [] (pages_in bytes) ≡ None → load_fault bytes ≡ None
+  unfolding load_fault
+  both_load whole fine = grind arith
 
   pub spelled-lawful : load_fault bytes ≡ None → Lawful (spelled_book bytes)
   unfolding load_fault spelled_book

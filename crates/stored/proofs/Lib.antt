@@ -1,7 +1,6 @@
-pub mod Steps
-pub mod Entries
+pub mod Chunks
+pub mod Leveled
 pub mod Walking
-pub mod Loads
 pub mod Counts
 pub mod Passing
 pub mod Fairness

@@ -1,5 +1,5 @@
 -- A page in 256 bytes, numbers high byte first.
-use Rattle.std.specs.Prelude.{ℕ, zero, suc, ◌+◌, ◌*◌, ◌%◌, Bool, cond, ◌&&◌, List, map, ◌==◌, slice_index}
+use Rattle.std.specs.Prelude.{ℕ, zero, suc, ◌+◌, ◌*◌, ◌%◌, Bool, cond, ◌&&◌, List, map, take, drop, ◌==◌, slice_index}
 use Rattle.std.specs.List.{range_with_len}
 use Rattle.stations.specs.declared.measures.Measures.{Measures}
 use Rattle.stations.specs.declared.station.Station.{Station}
@@ -45,6 +45,18 @@ is_marked_dead page = level_byte page == 255
 -- bytes 2 to 7 are 0
 abbrev pub is_padded : List ℕ → Bool
 is_padded page = byte_at page 2 == 0 && byte_at page 3 == 0 && byte_at page 4 == 0 && byte_at page 5 == 0 && byte_at page 6 == 0 && byte_at page 7 == 0
+
+-- the bytes of each entry of a page, n for an entry, from byte 8
+abbrev pub entry_bytes : ℕ → List ℕ → List (List ℕ)
+entry_bytes n page = map (λ i. take n (drop (n * i) (drop 8 page))) (range_with_len 0 (count_byte page))
+
+-- the stations in these bytes
+abbrev pub stations_of : List (List ℕ) → List Station
+stations_of chunks = map (λ bytes. station_at bytes 0) chunks
+
+-- the named pages in these bytes
+abbrev pub children_of : List (List ℕ) → List Child
+children_of chunks = map (λ bytes. child_at bytes 0) chunks
 
 -- the stations of a page of level 0, from byte 8
 abbrev pub stations_in : List ℕ → List Station

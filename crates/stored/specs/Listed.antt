@@ -1,6 +1,6 @@
-use Rattle.std.specs.Prelude.{ℕ, List, take}
+use Rattle.std.specs.Prelude.{ℕ, List}
 use Rattle.stored.specs.declared.numbers.Numbers.{Numbers}
 
--- the first `len` numbers count
+-- the numbers, in the order in which they occurred
 abbrev pub listed : Numbers → List ℕ
-listed ns = take ns.len ns.all
+listed ns = ns.all.items

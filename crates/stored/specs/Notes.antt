@@ -1,5 +1,6 @@
 -- What the pages checked so far say: how each page was named, and which station numbers occurred.
-use Rattle.std.specs.Prelude.{ℕ, Bool, false, ◌||◌, List, [], ◌∷◌, ◌++◌, map, replicate, is_some, Some, None, Option, ◌==◌, slice_index_or, slice_set}
+use Rattle.std.specs.Prelude.{ℕ, Bool, List, [], ◌∷◌, ◌++◌, map, replicate, is_some, Some, None, Option, ◌==◌, slice_index_or, slice_set}
+use Rattle.std.specs.List.{list_any}
 use Rattle.books.specs.declared.Child.{Child}
 use Rattle.books.specs.Books.{Slot, level, stations_on, children_on}
 use Rattle.stored.specs.declared.naming.Naming.{Naming}
@@ -35,8 +36,7 @@ note_all l notes (c ∷ cs) = note_all l (note_one l notes c) cs
 
 -- the number stands in the list
 abbrev pub occurs : ℕ → List ℕ → Bool
-occurs n [] = false
-occurs n (m ∷ ms) = m == n || occurs n ms
+occurs n ms = list_any (λ m. m == n) ms
 
 -- the notes after a page
 abbrev pub notes_after : Notes → Slot → Notes

@@ -5,10 +5,6 @@ use Rattle.books.specs.declared.Entry.{Entry}
 use Rattle.books.specs.declared.Entry.TheVariants as entries
 use Rattle.stored.specs.Layout.{station_at, child_at, level_byte}
 
--- what stands in a place without an entry: a station 0
-abbrev pub no_entry : Entry
-no_entry = entries.Station (record { number = 0; at = record { m1 = 0; m2 = 0; m3 = 0; m4 = 0 } })
-
 -- entry i of a page of this level
 abbrev pub entry_at : ℕ → List ℕ → ℕ → Entry
 entry_at zero page i = entries.Station (station_at page (8 + 12 * i))

@@ -1,6 +1,6 @@
-// Numbers, stations and named pages in bytes, high byte first.
-ghost use Rattle.std.specs.Prelude.{◌≡◌, ◌+◌, ◌≤◌, length};
-ghost use Rattle.stored.specs.Layout.{short_at, long_at, measures_at, station_at, child_at};
+// Pages, stations and named pages in bytes, high byte first.
+ghost use Rattle.std.specs.Prelude.{◌≡◌, ◌+◌, ◌*◌, ◌<◌, ◌≤◌, length};
+ghost use Rattle.stored.specs.Layout.{short_at, measures_at, station_at, child_at, level_byte, count_byte, entry_bytes};
 
 use books::Child;
 use stations::{Measures, Region, Station};
@@ -11,11 +11,7 @@ pub(crate) const PAGE: usize = 256;
 // The most pages of a book.
 pub(crate) const MOST_PAGES: usize = 256;
 
-// The places of the level and of the entry count, and where the entries begin.
-pub(crate) const LEVEL: usize = 0;
-
-pub(crate) const COUNT: usize = 1;
-
+// Where the entries of a page begin.
 pub(crate) const ENTRIES: usize = 8;
 
 // The bytes of a station, and of a named page.
@@ -26,21 +22,14 @@ pub(crate) const CHILD: usize = 18;
 // The level of a dead page.
 pub(crate) const DEAD: u8 = 255;
 
-pub(crate) fn short_at(bytes: &[u8], i: usize) -> u16
+fn short_at(bytes: &[u8], i: usize) -> u16
     requires { i + 2 ≤ length bytes.now }
     ensures { result ≡ short_at bytes.now i }
 {
-    bytes[i] as u16 * 256 + bytes[i + 1] as u16
+    u16::from_be_bytes([bytes[i], bytes[i + 1]])
 }
 
-pub(crate) fn long_at(bytes: &[u8], i: usize) -> u32
-    requires { i + 4 ≤ length bytes.now }
-    ensures { result ≡ long_at bytes.now i }
-{
-    short_at(bytes, i) as u32 * 65536 + short_at(bytes, i + 2) as u32
-}
-
-pub(crate) fn measures_at(bytes: &[u8], i: usize) -> Measures
+fn measures_at(bytes: &[u8], i: usize) -> Measures
     requires { i + 8 ≤ length bytes.now }
     ensures { result ≡ measures_at bytes.now i }
 {
@@ -52,25 +41,48 @@ pub(crate) fn measures_at(bytes: &[u8], i: usize) -> Measures
     }
 }
 
-pub(crate) fn station_at(bytes: &[u8], i: usize) -> Station
-    requires { i + 12 ≤ length bytes.now }
-    ensures { result ≡ station_at bytes.now i }
+pub(crate) fn station_of(bytes: &[u8; STATION]) -> Station
+    ensures { result ≡ station_at bytes.now 0 }
 {
     Station {
-        number: long_at(bytes, i),
-        at: measures_at(bytes, i + 4),
+        number: u32::from_be_bytes([bytes[0], bytes[1], bytes[2], bytes[3]]),
+        at: measures_at(bytes, 4),
     }
 }
 
-pub(crate) fn child_at(bytes: &[u8], i: usize) -> Child
-    requires { i + 18 ≤ length bytes.now }
-    ensures { result ≡ child_at bytes.now i }
+pub(crate) fn child_of(bytes: &[u8; CHILD]) -> Child
+    ensures { result ≡ child_at bytes.now 0 }
 {
     Child {
-        page: short_at(bytes, i) as u32,
+        page: short_at(bytes, 0) as u32,
         bounds: Region {
-            low: measures_at(bytes, i + 2),
-            high: measures_at(bytes, i + 10),
+            low: measures_at(bytes, 2),
+            high: measures_at(bytes, 10),
         },
     }
+}
+
+// The first byte of a page: its level, or the mark of a dead page.
+pub(crate) fn level(page: &[u8; PAGE]) -> u8
+    ensures { result ≡ level_byte page.now }
+{
+    page[0]
+}
+
+// The second byte of a page: how many entries it has.
+pub(crate) fn count(page: &[u8; PAGE]) -> usize
+    ensures { result ≡ count_byte page.now }
+{
+    page[1] as usize
+}
+
+// The entries of a page, of N bytes each.
+pub(crate) fn entries<const N: usize>(page: &[u8; PAGE]) -> &[[u8; N]]
+    requires some { 0 < N }
+    requires fit { 8 + N * count_byte page.now ≤ 256 }
+    ensures value { result.now ≡ entry_bytes N page.now }
+    ensures len { length result.now ≡ count_byte page.now }
+{
+    let (chunks, _) = page[ENTRIES..].as_chunks::<N>();
+    &chunks[..count(page)]
 }

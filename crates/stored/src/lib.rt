@@ -7,6 +7,7 @@ mod layout;
 mod load;
 mod naming;
 mod numbers;
+mod seen;
 mod showing;
 mod source;
 mod stored;
@@ -16,14 +17,10 @@ pub use stored::Stored;
 
 // Laws of the layout, of all bytes.
 
-pub fn pages_spell_books() -> u8
+pub fn pages_spell_books()
     ensures { PagesSpellBooks }
-{
-    0
-}
+{}
 
-pub fn ignored_bytes_change_nothing() -> u8
+pub fn ignored_bytes_change_nothing()
     ensures { PagesDecide }
-{
-    0
-}
+{}

@@ -15,6 +15,7 @@ const EMPTY_PAGE: [u8; PAGE] = [0; PAGE];
 
 impl<'a> Stored<'a> {
     // The book of one page of level 0 without entries.
+    #[tactic(auto, unfolding(crate::specs::Loading::spelled_book))]
     pub fn new() -> Stored<'a>
         ensures book { book_of result ≡ leaf [] ∷ [] }
         ensures pages { pages_of result ≡ 1 }
@@ -30,6 +31,7 @@ impl<'a> Stored<'a> {
     }
 
     // Takes another book, or refuses it and keeps the former one. The meter goes on in either case.
+    #[tactic(auto, unfolding(crate::specs::Loading::load_fault))]
     pub fn load(&mut self, bytes: &'a [u8]) -> Result<(), Fault>
         ensures answer { result ≡ verdict (load_fault bytes.now) }
         ensures sound { Decides (is_ok result) (Sound bytes.now) }

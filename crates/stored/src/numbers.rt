@@ -1,60 +1,46 @@
 // The station numbers that occurred so far.
-ghost use Rattle.std.specs.Prelude.{◌≡◌, ◌+◌, ◌<◌, ◌≤◌, [], ◌∷◌, ◌++◌, take};
+ghost use Rattle.std.specs.Prelude.{◌≡◌, ◌<◌, [], ◌∷◌, ◌++◌, length};
 ghost use Rattle.stations.specs.Marks.{Covers};
 ghost use Rattle.stored.specs.Notes.{occurs};
 
+use crate::layout::MOST_PAGES;
+use arrayvec::ArrayVec;
+use sources::MOST_ENTRIES;
 use stations::Marks;
 
-// Twelve for each of 256 pages.
-const MOST_NUMBERS: usize = 3072;
+// As many as the pages of a book can hold.
+const MOST_NUMBERS: usize = MOST_PAGES * MOST_ENTRIES;
 
 #[derive(Drop)]
 pub(crate) struct Numbers {
-    pub(crate) all: [u32; MOST_NUMBERS],
-    pub(crate) len: usize,
+    all: ArrayVec<u32, MOST_NUMBERS>,
     marks: Marks,
-    ghost covered: { Covers marks (λ n. occurs n (take len all)) },
+    ghost covered: { Covers marks (λ n. occurs n all.items) },
 }
 
 impl Numbers {
     ghost use Rattle.stored.specs.Listed.{listed};
 
     pub(crate) fn new() -> Numbers
-        ensures none { listed result ≡ [] }
-        ensures start { result.len ≡ 0 }
+        ensures { listed result ≡ [] }
     {
         Numbers {
-            all: [0; MOST_NUMBERS],
-            len: 0,
+            all: ArrayVec::new(),
             marks: Marks::new(),
         }
     }
 
     pub(crate) fn has(&self, number: u32) -> bool
-        requires { self.now.len ≤ 3072 }
         ensures { result ≡ occurs number (listed self.now) }
     {
-        self.marks.may_hold(number) && has_number(&self.all[0..self.len], number)
+        self.marks.may_hold(number) && self.all.contains(&number)
     }
 
     pub(crate) fn push(&mut self, number: u32)
-        requires { self.old.len < 3072 }
-        ensures list { listed self.new ≡ listed self.old ++ number ∷ [] }
-        ensures more { self.new.len ≡ self.old.len + 1 }
+        requires { length (listed self.old) < 3072 }
+        ensures { listed self.new ≡ listed self.old ++ number ∷ [] }
     {
-        self.all[self.len] = number;
-        self.len += 1;
+        self.all.push(number);
         self.marks.mark(number);
     }
-}
-
-fn has_number(numbers: &[u32], number: u32) -> bool
-    ensures { result ≡ occurs number numbers.now }
-{
-    for n in numbers {
-        if *n == number {
-            return true;
-        }
-    }
-    false
 }

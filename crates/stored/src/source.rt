@@ -27,23 +27,17 @@ impl<'a> PageSource for Stored<'a> {
         Self::MOST_PAGES
     }
 
+    #[tactic(auto, using(crate::proofs::Chunks::page_is, crate::proofs::Shown::mark_at, crate::proofs::Shown::few_entries, crate::proofs::Shown::reads_live, books::specs::Facts::lawful_out))]
     fn read(&mut self, page: u32) -> Result<Page, Fault> {
         self.meter = self.meter.wrapping_add(1);
-        if page as usize >= self.bytes.len() / PAGE {
-            return Err(Fault {
-                code: Code::PageNumber,
-                first: page,
-                second: 0,
-            });
-        }
+        let (pages, _) = self.bytes.as_chunks::<PAGE>();
         let p = page as usize;
-        if !self.live[p] {
-            return Err(Fault {
-                code: Code::DeadPage,
-                first: page,
-                second: 0,
-            });
+        if p >= pages.len() {
+            return Err(Code::PageNumber.at(page, 0));
         }
-        Ok(page_at(&self.bytes[PAGE * p..PAGE * p + PAGE]))
+        if !self.live[p] {
+            return Err(Code::DeadPage.at(page, 0));
+        }
+        Ok(page_at(&pages[p]))
     }
 }

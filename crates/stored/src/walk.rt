@@ -1,5 +1,5 @@
 // The check of a whole book: the pages that count, in rising number.
-ghost use Rattle.std.specs.Prelude.{◌≡◌, ◌+◌, ◌*◌, ◌%◌, ◌<◌, ◌≤◌, true, [], length, take, is_ok, Ok};
+ghost use Rattle.std.specs.Prelude.{◌≡◌, ◌+◌, ◌<◌, ◌≤◌, true, [], length, take, is_ok, Ok};
 ghost use Rattle.stations.specs.Faults.{verdict};
 ghost use Rattle.stored.specs.Notes.{no_notes, notes_after, numbers_after};
 ghost use Rattle.stored.specs.Listed.{listed};
@@ -7,43 +7,38 @@ ghost use Rattle.stored.specs.Loading.{page_count, pages_in, is_live_at, slot_at
 ghost use Rattle.stored.specs.Visits.{visited};
 
 use crate::check::Place;
-use crate::layout::{DEAD, LEVEL, MOST_PAGES, PAGE};
-use crate::naming::Naming;
-use crate::numbers::Numbers;
+use crate::layout::{DEAD, MOST_PAGES, PAGE, level};
+use crate::seen::Seen;
 use stations::{Code, Fault};
 
-// The page is the top or a page before it names it, and it is not dead.
-fn is_live_at(notes: &[Option<Naming>], p: usize, page: &[u8]) -> bool
-    requires { (length page.now ≡ 256) × (p < length notes.now) }
-    ensures { result ≡ is_live_at notes.now p page.now }
-{
-    (p == 0 || notes[p].is_some()) && page[LEVEL] != DEAD
-}
-
-// Checks a page if it counts and is not dead, and says whether it can be read.
-fn visit(
-    p: usize,
-    pages: usize,
-    notes: &mut [Option<Naming>],
-    numbers: &mut Numbers,
-    page: &[u8],
-) -> Result<bool, Fault>
-    requires { (p < pages) × ((pages ≤ 256) × ((length notes.old ≡ 256) × ((length page.now ≡ 256) × (numbers.old.len + 12 ≤ 3072)))) }
-    ensures answer { result ≡ visited (visit_fault pages p notes.old (listed numbers.old) page.now) (is_live_at notes.old p page.now) }
-    ensures noted { is_ok result ≡ true → notes.new ≡ notes_after notes.old (slot_at notes.old p page.now) }
-    ensures listed { is_ok result ≡ true → listed numbers.new ≡ numbers_after (listed numbers.old) (slot_at notes.old p page.now) }
-    ensures few { numbers.new.len ≤ numbers.old.len + 12 }
-{
-    if !is_live_at(notes, p, page) {
-        return Ok(false);
+impl Seen {
+    // The page is the top or a page before it names it, and it is not dead.
+    fn is_live_at(&self, p: usize, page: &[u8; PAGE]) -> bool
+        requires { p < 256 }
+        ensures { result ≡ is_live_at self.now.notes p page.now }
+    {
+        (p == 0 || self.notes[p].is_some()) && level(page) != DEAD
     }
-    let place = Place {
-        page: p as u32,
-        pages: pages as u32,
-        naming: notes[p],
-    };
-    place.check_page(notes, numbers, page)?;
-    Ok(true)
+
+    // Checks a page if it counts and is not dead, and says whether it can be read.
+    fn visit(&mut self, p: usize, pages: usize, page: &[u8; PAGE]) -> Result<bool, Fault>
+        requires place { (p < pages) × (pages ≤ 256) }
+        requires room { length (listed self.old.numbers) + 12 ≤ 3072 }
+        ensures answer { result ≡ visited (visit_fault pages p self.old.notes (listed self.old.numbers) page.now) (is_live_at self.old.notes p page.now) }
+        ensures noted { is_ok result ≡ true → self.new.notes ≡ notes_after self.old.notes (slot_at self.old.notes p page.now) }
+        ensures listed { is_ok result ≡ true → listed self.new.numbers ≡ numbers_after (listed self.old.numbers) (slot_at self.old.notes p page.now) }
+    {
+        if !self.is_live_at(p, page) {
+            return Ok(false);
+        }
+        let place = Place {
+            page: p as u32,
+            pages: pages as u32,
+            naming: self.notes[p],
+        };
+        place.check_page(self, page)?;
+        Ok(true)
+    }
 }
 
 // Refuses a length that is not that of 1 to 256 pages.
@@ -51,32 +46,22 @@ pub(crate) fn check_length(bytes: &[u8]) -> Result<(), Fault>
     ensures { result ≡ verdict (length_fault bytes.now) }
 {
     if bytes.len() % PAGE != 0 || bytes.len() < PAGE || bytes.len() > PAGE * MOST_PAGES {
-        return Err(Fault {
-            code: Code::BookLength,
-            first: 0,
-            second: 0,
-        });
+        return Err(Code::BookLength.into());
     }
     Ok(())
 }
 
 // Checks the pages in turn, and marks those that can be read.
-pub(crate) fn check_pages(bytes: &[u8], live: &mut [bool]) -> Result<(), Fault>
-    requires { (page_count bytes.now ≤ 256) × (length live.old ≡ 256) }
+#[tactic(auto, using(crate::proofs::Chunks::pages_are))]
+pub(crate) fn check_pages(bytes: &[u8], live: &mut [bool; MOST_PAGES]) -> Result<(), Fault>
+    requires { page_count bytes.now ≤ 256 }
     ensures answer { result ≡ verdict (walk_fault (page_count bytes.now) 0 no_notes [] (pages_in bytes.now)) }
     ensures marked { result ≡ Ok tt → take (page_count bytes.now) live.new ≡ marks (slots_from 0 no_notes (pages_in bytes.now)) }
 {
-    let pages = bytes.len() / PAGE;
-    let mut notes: [Option<Naming>; MOST_PAGES] = [None; MOST_PAGES];
-    let mut numbers = Numbers::new();
-    for p in 0..pages {
-        live[p] = visit(
-            p,
-            pages,
-            &mut notes,
-            &mut numbers,
-            &bytes[PAGE * p..PAGE * p + PAGE],
-        )?;
+    let (pages, _) = bytes.as_chunks::<PAGE>();
+    let mut seen = Seen::new();
+    for (p, page) in pages.iter().enumerate() {
+        live[p] = seen.visit(p, pages.len(), page)?;
     }
     Ok(())
 }

@@ -1,65 +1,37 @@
 #![tactic(auto)]
 // Runs every log of standard input through the report, and prints what it prints. A log stands behind a line with its length.
+use frames::Frames;
 use rankings::Weights;
-use reports::{Report, report};
+use reports::report;
 use stations::{Fault, Measures, Station, check_row};
 use std::io::{Read, Write};
-
-// The length that the first line says, and where the log begins behind it.
-fn frame(input: &[u8]) -> Option<(usize, usize)> {
-    let mut len = 0usize;
-    for i in 0..input.len() {
-        let b = input[i];
-        if b == b'\n' {
-            return Some((len, i + 1));
-        }
-        if b < b'0' || b > b'9' {
-            return None;
-        }
-        len = len.checked_mul(10)?.checked_add((b - b'0') as usize)?;
-    }
-    None
-}
 
 // Prints the report of a log into a buffer of some length, or the fault where that is too short.
 fn print_report(rt: &HostRuntime, text: &[u8], room: usize) -> anyhow::Result<()> {
     let mut print = vec![in rt.alloc(); 0u8; room]?;
     match report(text, print.as_mut_slice()) {
-        Ok(Report::Done(n)) => print.truncate(n),
-        Ok(Report::Refused(n)) => print.truncate(n),
+        Ok(printed) => print.truncate(printed.len()),
         Err(fault) => return print_fault(rt, fault),
     }
     rt.stdout().write_all(print.as_slice())?;
     Ok(())
 }
 
+// Both trials have these lines: a crate for them would be longer.
 fn print_fault(rt: &HostRuntime, fault: Fault) -> anyhow::Result<()> {
-    let code = fault.code.number();
-    let first = fault.first;
-    let second = fault.second;
+    let Fault {
+        code,
+        first,
+        second,
+    } = fault;
     println!(rt; "fault {code} at {first}, {second}")?;
     Ok(())
 }
 
-// The first log of the input, and what follows it.
-fn next_log(input: &[u8]) -> Option<(&[u8], &[u8])> {
-    let (len, start) = frame(input)?;
-    let end = start.checked_add(len)?;
-    if end > input.len() {
-        return None;
-    }
-    Some((&input[start..end], &input[end..]))
-}
-
 // The logs of the input, one after the other.
 fn print_all(rt: &HostRuntime, input: &[u8]) -> anyhow::Result<()> {
-    let mut rest = input;
-    for _ in 0..input.len() {
-        let Some((log, later)) = next_log(rest) else {
-            break;
-        };
+    for log in Frames::new(input) {
         print_report(rt, log, 65_536)?;
-        rest = later;
     }
     Ok(())
 }
@@ -85,9 +57,7 @@ fn station(number: u32, m1: u16) -> Station {
         number,
         at: Measures {
             m1,
-            m2: 0,
-            m3: 0,
-            m4: 0,
+            ..Measures::default()
         },
     }
 }
@@ -126,14 +96,13 @@ fn print_rows(rt: &HostRuntime) -> anyhow::Result<()> {
 
 // Weights given straight, at the largest and above it in each place.
 fn print_weights(rt: &HostRuntime) -> anyhow::Result<()> {
-    for w in [
+    for (w1, w2, w3, w4) in [
         (1000, 1000, 1000, 1000),
         (1001, 0, 0, 0),
         (0, 1001, 0, 0),
         (0, 0, 1001, 0),
         (0, 0, 0, 1001),
     ] {
-        let (w1, w2, w3, w4) = w;
         match Weights::new(w1, w2, w3, w4) {
             Ok(_) => println!(rt; "accepted")?,
             Err(fault) => print_fault(rt, fault)?,

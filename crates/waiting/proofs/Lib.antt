@@ -1,5 +1,4 @@
 pub mod Heaps
 pub mod Tests
 pub mod Filling
-pub mod Openings
 pub mod Turns

@@ -1,6 +1,7 @@
 -- Steps of the tests and the keys of entries.
-use Rattle.std.proofs.Common.{◌≡◌, ℕ, zero, suc, ◌+◌, ◌<◌, ◌≤◌, Bool, true, ◌&&◌, List, [], ◌∷◌, length, get_or, take, sym, ap, ◌∙◌, arith}
+use Rattle.std.proofs.Common.{◌≡◌, ℕ, zero, suc, ◌+◌, ◌<◌, ◌≤◌, Bool, true, false, cond, ◌&&◌, List, [], ◌∷◌, length, get_or, take, count_by, sym, refl, ap, ◌∙◌, arith}
 use Rattle.std.proofs.lemmas.List.{take_more}
+use Rattle.std.proofs.lemmas.List.Recursion.{is_count_by}
 use Rattle.stations.specs.declared.measures.Measures.{Measures}
 use Rattle.stations.specs.declared.station.Station as stated
 use Rattle.stations.specs.declared.key.Key.{Key}
@@ -13,17 +14,23 @@ use Rattle.promises.specs.Queries.{Query, key_at}
 use Rattle.promises.specs.Waiting.{measures_of, key_of}
 use Rattle.promises.proofs.Lists.{count_append}
 
+-- std's count is this one
+pub counted : {A : Type 0} (t : A → Bool) (xs : List A) → count_by t xs ≡ count t xs
+counted t xs = sym (is_count_by (count t) t refl (λ x xs. one-more (t x) (count t xs)) xs)
+  where
+    one-more : (b : Bool) (n : ℕ) → bit b + n ≡ cond b (1 + n) n
+    one-more true n = refl
+    one-more false n = omega arith
+
 -- one more element of a list is counted
 pub count-more : {A : Type 0} (t : A → Bool) (xs : List A) (i : ℕ) (d : A) (r : Bool) → i < length xs → r ≡ t (get_or xs i d) → count t (take (i + 1) xs) ≡ count t (take i xs) + bit r
 count-more t xs i d r h f = omega (arith, ap (count t) (take_more xs i d h), count_append t (take i xs) (get_or xs i d ∷ []), ap bit f)
 
--- a longer front counts no fewer
-pub count-front : {A : Type 0} (t : A → Bool) (xs : List A) (i n : ℕ) → i ≤ n → count t (take i xs) ≤ count t (take n xs)
-count-front t xs zero n h = omega arith
-count-front t [] (suc i) zero h = omega arith
-count-front t [] (suc i) (suc n) h = omega arith
-count-front t (x ∷ xs) (suc i) zero h = absurd (omega arith)
-count-front t (x ∷ xs) (suc i) (suc n) h = omega (arith, count-front t xs i n (omega arith))
+-- a front counts no more than the whole
+pub count-front : {A : Type 0} (t : A → Bool) (xs : List A) (i : ℕ) → count t (take i xs) ≤ count t xs
+count-front t xs zero = omega arith
+count-front t [] (suc i) = omega arith
+count-front t (x ∷ xs) (suc i) = omega (arith, count-front t xs i)
 
 -- a test that goes on where the first part holds
 pub both-parts : (t s r u : Bool) → t ≡ true → t ≡ s → r ≡ u → r ≡ (s && u)

@@ -43,7 +43,7 @@ use Rattle.waiting.specs.States.{limits, Refuses, many, unnamed, dies, crowds, O
 use Rattle.waiting.proofs.Filling.{same_shuffled, same_length, entries-length, filled-count}
 
 kinds : {P : Type 0} {s : stated.Station} {c : Child} → Station s ≡ Page c → P
-kinds h = let z : ◌≡◌ {A = ℕ} 0 1 = cc in absurd (omega arith)
+kinds h = cc
 
 same-station : {s t : stated.Station} → Station s ≡ Station t → s ≡ t
 same-station h = cc
@@ -52,10 +52,10 @@ same-page : {c d : Child} → Page c ≡ Page d → c ≡ d
 same-page h = cc
 
 not_done : {P : Type 0} → phase_by (Ok None) ≡ histories.searching → P
-not_done h = let z : ◌≡◌ {A = ℕ} 0 1 = cc in absurd (omega arith)
+not_done h = cc
 
 not-halted : {P : Type 0} {f : Fault} → phase_by (Err f) ≡ histories.searching → P
-not-halted h = let z : ◌≡◌ {A = ℕ} 0 1 = cc in absurd (omega arith)
+not-halted h = cc
 
 module _ (q : Query) (laws : Laws q) (b : Book) (lawful : Lawful b) where
   abbrev T : turning.Turned q b

@@ -1,5 +1,5 @@
 -- What the waiting and the listed hold, and what putting and taking do.
-use Rattle.std.specs.Prelude.{◌≡◌, ℕ, ◌+◌, ◌<◌, ◌≤◌, Bool, true, false, List, [], ◌∷◌, ◌++◌, map, length, take, Some, None, filter, Option}
+use Rattle.std.specs.Prelude.{◌≡◌, ℕ, ◌+◌, ◌<◌, ◌≤◌, false, List, [], ◌∷◌, ◌++◌, map, length, Some, None, Ok, Err, filter, Option, Result}
 use Rattle.std.specs.List.Sorted.{IsPermutation}
 use Rattle.std.specs.List.{AllByRecursion as Each}
 use Rattle.stations.specs.declared.station.Station.{Station}
@@ -10,6 +10,7 @@ use Rattle.heaps.specs.Heap.{Heaped}
 use Rattle.promises.specs.Queries.{Query}
 use Rattle.promises.specs.Waiting.{key_of, passes}
 use Rattle.promises.specs.Turning.{Same}
+use Rattle.waiting.specs.declared.waiting.Full.{Full}
 use Rattle.waiting.specs.declared.waiting.Waiting.{Waiting}
 use Rattle.waiting.specs.declared.waiting.Queue.{Queue}
 use Rattle.waiting.specs.declared.listed.Listed.{Listed}
@@ -17,16 +18,16 @@ use Rattle.waiting.specs.Orders.{by_key}
 
 -- the entries that wait, as the heap has them
 abbrev pub held : Queue → List Waiting
-held w = take w.used w.items
+held w = w.items.items
 
 -- the stations listed
 abbrev pub listing : Listed → List Station
-listing l = take l.len l.stations
+listing l = l.stations.items
 
 -- one more is listed where there is room
-abbrev pub Lists : ℕ → List Station → Station → Bool → List Station → Type 0
-Lists limit xs s true ys = (length xs < limit) × (ys ≡ xs ++ s ∷ [])
-Lists limit xs s false ys = (limit ≤ length xs) × (ys ≡ xs)
+abbrev pub Lists : ℕ → List Station → Station → Result (Unit {0}) Full → List Station → Type 0
+Lists limit xs s (Ok u) ys = (length xs < limit) × (ys ≡ xs ++ s ∷ [])
+Lists limit xs s (Err full) ys = (limit ≤ length xs) × (ys ≡ xs)
 
 -- an entry with its key
 abbrev pub waiting_of : Query → Entry → Waiting
@@ -46,9 +47,9 @@ pub record Put (xs : List Waiting) (w : Waiting) (ys : List Waiting) : Type 0 wh
   pub heap : Heaped by_key xs → Heaped by_key ys
 
 -- so it is where there is room
-abbrev pub Puts : ℕ → List Waiting → Waiting → Bool → List Waiting → Type 0
-Puts limit xs w true ys = Put xs w ys
-Puts limit xs w false ys = (length xs ≡ limit) × (ys ≡ xs)
+abbrev pub Puts : ℕ → List Waiting → Waiting → Result (Unit {0}) Full → List Waiting → Type 0
+Puts limit xs w (Ok u) ys = Put xs w ys
+Puts limit xs w (Err full) ys = (length xs ≡ limit) × (ys ≡ xs)
 
 -- one waits no more; of a heap it is the least, and a heap is left
 pub record Taken (xs : List Waiting) (w : Waiting) (ys : List Waiting) : Type 0 where
@@ -68,6 +69,6 @@ pub record Filled (q : Query) (ss : List Station) (es : List Entry) (xs ys : Lis
   pub heap : Heaped by_key xs → Heaped by_key ys
 
 -- so it is where there is room for them
-abbrev pub Fills : ℕ → Query → List Station → List Entry → List Waiting → Bool → List Waiting → Type 0
-Fills limit q ss es xs true ys = Filled q ss es xs ys
-Fills limit q ss es xs false ys = limit < length xs + count (passes q ss) es
+abbrev pub Fills : ℕ → Query → List Station → List Entry → List Waiting → Result (Unit {0}) Full → List Waiting → Type 0
+Fills limit q ss es xs (Ok u) ys = Filled q ss es xs ys
+Fills limit q ss es xs (Err full) ys = limit < length xs + count (passes q ss) es

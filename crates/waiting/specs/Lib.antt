@@ -1,3 +1,4 @@
 pub mod Orders
+pub mod Asking
 pub mod Held
 pub mod States

@@ -1,48 +1,45 @@
 // The entries of a page are put to what waits.
-ghost use Rattle.std.specs.Prelude.{◌+◌, ◌≤◌, [], ◌∷◌, take};
-ghost use Rattle.promises.specs.Bands.{bands};
+ghost use Rattle.std.specs.Prelude.{◌+◌, ◌≤◌, [], ◌∷◌, length};
 ghost use Rattle.waiting.specs.Held.{held, listing, Fills};
+ghost use Rattle.waiting.specs.Asking.{bands_of};
 
-use crate::entries::keyed;
 use crate::listed::Listed;
-use crate::waiting::Queue;
+use crate::query::Query;
+use crate::waiting::{Full, Queue};
 use books::Entry;
 use rankings::Ranking;
 use sources::Page;
-use stations::Question;
 
-// Puts the entry to what waits unless it is set aside: false where there is no room for it.
-fn admit<R: Ranking>(
-    waiting: &mut Queue,
-    ranking: &R,
-    question: Question,
-    listed: &Listed,
-    entry: Entry,
-) -> bool
-    ensures fills { Fills 1024 (bands (R.score ranking.now) question) (listing listed.now) (entry ∷ []) (held waiting.old) result (held waiting.new) }
-    ensures few { waiting.new.used ≤ waiting.old.used + 1 }
-{
-    if listed.passes(question, entry) {
-        return waiting.push(keyed(ranking, question, entry));
-    }
-    true
-}
-
-// Puts the entries of a page to what waits but for those set aside: false where there is no room for one.
-pub fn fill<R: Ranking>(
-    waiting: &mut Queue,
-    ranking: &R,
-    question: Question,
-    listed: &Listed,
-    page: &Page,
-) -> bool
-    ensures fills { Fills 1024 (bands (R.score ranking.now) question) (listing listed.now) (take page.now.len page.now.entries) (held waiting.old) result (held waiting.new) }
-    ensures few { waiting.new.used ≤ waiting.old.used + 12 }
-{
-    for i in 0..page.len {
-        if !admit(waiting, ranking, question, listed, page.entries[i]) {
-            return false;
+impl Queue {
+    // Puts the entry to what waits unless it is set aside, or refuses where there is no room for it.
+    fn admit<R: Ranking>(
+        &mut self,
+        query: &Query<R>,
+        listed: &Listed,
+        entry: Entry,
+    ) -> Result<(), Full>
+        ensures fills { Fills 1024 (bands_of R.score query.now) (listing listed.now) (entry ∷ []) (held self.old) result (held self.new) }
+        ensures few { length (held self.new) ≤ length (held self.old) + 1 }
+    {
+        if listed.passes(query, entry) {
+            return self.push(query.keyed(entry));
         }
+        Ok(())
     }
-    true
+
+    // Puts the entries of a page to what waits but for those set aside, or refuses where there is no room for one.
+    pub fn fill<R: Ranking>(
+        &mut self,
+        query: &Query<R>,
+        listed: &Listed,
+        page: &Page,
+    ) -> Result<(), Full>
+        ensures fills { Fills 1024 (bands_of R.score query.now) (listing listed.now) page.now.entries.items (held self.old) result (held self.new) }
+        ensures few { length (held self.new) ≤ length (held self.old) + 12 }
+    {
+        for entry in page.entries.iter() {
+            self.admit(query, listed, *entry)?;
+        }
+        Ok(())
+    }
 }

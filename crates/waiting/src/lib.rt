@@ -3,9 +3,10 @@
 mod entries;
 mod fills;
 mod listed;
+mod query;
 mod queue;
 mod waiting;
 
-pub use fills::fill;
 pub use listed::{Listed, MOST_LISTED};
-pub use waiting::{MOST_WAITING, Queue, Waiting};
+pub use query::Query;
+pub use waiting::{Full, MOST_WAITING, Queue, Waiting};

@@ -1,10 +1,16 @@
-ghost use Rattle.std.specs.Prelude.{◌≡◌, ◌≤◌, length};
+ghost use Rattle.std.specs.Prelude.{◌≡◌, ◌≤◌};
+ghost use Rattle.arrayvec.specs.ArrayVec.{array_vec_len};
 
+use arrayvec::ArrayVec;
 use books::Entry;
-use stations::Key;
+use stations::{Key, Kind};
 
 // The most entries that may wait.
 pub const MOST_WAITING: usize = 1024;
+
+// There is no room for one more.
+#[derive(Clone, Copy, Debug, PartialEq, Eq)]
+pub struct Full;
 
 // An entry that waits. The key decides when it is taken.
 #[derive(Clone, Copy)]
@@ -15,11 +21,24 @@ pub struct Waiting {
     pub entry: Entry,
 }
 
-// The entries that wait: a heap in the first `used` places.
+// What fills a place where nothing waits; nobody reads it.
+impl Default for Waiting {
+    fn default() -> Self {
+        Waiting {
+            key: Key {
+                rank: 0,
+                sum: 0,
+                kind: Kind::Page,
+                number: 0,
+            },
+            entry: Entry::default(),
+        }
+    }
+}
+
+// The entries that wait, in a heap.
 #[derive(Drop)]
 pub struct Queue {
-    pub items: [Waiting; MOST_WAITING],
-    pub used: usize,
-    ghost few: { used ≤ 1024 },
-    ghost sized: { length items ≡ 1024 },
+    pub items: ArrayVec<Waiting, MOST_WAITING>,
+    ghost few: { array_vec_len items ≤ 1024 },
 }

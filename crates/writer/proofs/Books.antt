@@ -1,9 +1,10 @@
 -- The bytes of a lawful book whose pages are all live load, and spell the book.
-use Rattle.std.proofs.Common.{◌≡◌, ℕ, zero, suc, ◌+◌, ◌*◌, ◌^◌, ◌<◌, ◌≤◌, Bool, true, false, cond, ◌||◌, eqb, ◌⊎◌, List, [], ◌∷◌, ◌++◌, map, length, get_or, take, drop, is_some, Some, None, sym, refl, ap, ◌∙◌, subst, inl, inr, arith}
+use Rattle.std.proofs.Common.{◌≡◌, ℕ, zero, suc, ◌+◌, ◌*◌, ◌^◌, ◌<◌, ◌≤◌, Bool, true, cond, ◌||◌, eqb, ◌⊎◌, List, [], ◌∷◌, ◌++◌, map, length, get_or, take, drop, is_some, Some, None, sym, refl, ap, ◌∙◌, subst, inl, inr, arith}
 use Rattle.std.specs.List.{flat_map, AllByRecursion as Each}
 use Rattle.std.proofs.lemmas.List.{append-nil, take_at, get_or-set_same, get_or-set_other, same_lists, length-map, length-set, get_or-map, get_or_past}
 use Rattle.std.proofs.ByRecursion.{All-from_get_or, All-get_or, All-weaker, All-append}
 use Rattle.std.proofs.lemmas.List.FromFn.{length-map-range_with_len, get_or-map-range_with_len}
+use Rattle.std.proofs.lemmas.Bool.Decides.{nat_tests}
 use Rattle.std.proofs.lemmas.Bool.{cases_eq, cases_lt, ne_eqb, eq-eqb, or_left, or_right, and_from, not_from_false}
 use Rattle.stations.specs.declared.station.Station.{Station}
 use Rattle.stations.specs.declared.measures.Measures.{Measures}
@@ -30,7 +31,7 @@ all_back Q (x ∷ xs) ys h = all_back Q xs ys h.1
 
 -- what holds of all parts holds of the parts of each page
 parts-of : {A : Type 0} (Q : A → Type 0) (part : Slot → List A) (b : Book) (p : ℕ) → p < length b → Each Q (flat_map part b) → Each Q (part (slot b p))
-parts-of Q part [] p h all = let no_way : ⊥ = omega arith in absurd no_way
+parts-of Q part [] p h all = absurd (omega arith)
 parts-of Q part (s ∷ b) zero h all = all-front Q (part s) (flat_map part b) all
 parts-of Q part (s ∷ b) (suc p) h all = parts-of Q part b p (omega arith) (all_back Q (part s) (flat_map part b) all)
 
@@ -40,16 +41,12 @@ both-all P Q R f (x ∷ xs) p q = (f x p.0 q.0, both-all P Q R f xs p.1 q.1)
 
 -- measures below ordinary ones are ordinary
 below-ordinary : (p q : Measures) → p ≼ q → Ordinary q → Ordinary p
-below-ordinary p q h o = record { in1 = (let a = h.in1 in let b = o.in1 in omega arith); in2 = (let a = h.in2 in let b = o.in2 in omega arith); in3 = (let a = h.in3 in let b = o.in3 in omega arith); in4 = (let a = h.in4 in let b = o.in4 in omega arith) }
+below-ordinary p q h o = record { in1 = omega arith; in2 = omega arith; in3 = omega arith; in4 = omega arith }
 
 -- a page that names only pages after p does not name p
 none-named-at : (p : ℕ) (cs : List Child) → Each (λ c. p < c.page) cs → count (names p) cs ≡ 0
 none-named-at p [] h = refl
-none-named-at p (c ∷ cs) h =
-    let above = h.0 in
-    let one = ap bit (ne_eqb c.page p (λ e. omega arith)) in
-    let rest = none-named-at p cs h.1 in
-    omega arith
+none-named-at p (c ∷ cs) h = let above = h.0 in grind (arith, nat_tests, none-named-at p cs h.1)
 
 -- each of these pages, from page p on, names only pages after it
 abbrev After : ℕ → List Slot → Type 0
@@ -63,8 +60,7 @@ later-named q p (s ∷ ss) h a =
 
 -- a page that was named, or is named by these entries, is named after them
 some-bit : (t : Bool) → 1 ≤ bit t → t ≡ true
-some-bit true h = refl
-some-bit false h = let no_way : ⊥ = omega arith in absurd no_way
+some-bit t h = grind arith
 
 noted : (l q : ℕ) (notes : Notes) (cs : List Child) → Each (λ c. c.page < length notes) cs → 1 ≤ bit (is_named notes q) + count (names q) cs → 1 ≤ bit (is_named (note_all l notes cs) q)
 noted l q notes [] inside h = omega arith

@@ -1,9 +1,9 @@
 -- The pages of a roll, read and written one after the other.
-use Rattle.std.proofs.Common.{◌≡◌, ℕ, ◌+◌, ◌*◌, ◌<◌, ◌≤◌, List, [], ◌++◌, length, take, drop, None, Ok, Err, MatchBool, Result, sym, ap, ◌∙◌, subst, arith}
+use Rattle.std.proofs.Common.{◌≡◌, ℕ, ◌+◌, ◌*◌, ◌<◌, ◌≤◌, List, [], ◌++◌, length, take, None, Ok, Err, MatchBool, Result, sym, ap, ◌∙◌, subst, arith}
 use borrow.Rule.Slice.PartMut.{put_mid}
 use Rattle.std.specs.List.{flat_map}
-use Rattle.std.proofs.lemmas.List.{take_more, flat_map_more, drop-drop}
-use Rattle.std.proofs.lemmas.Slice.{take-put_mid, drop-put_mid}
+use Rattle.std.proofs.lemmas.List.{take_more, flat_map_more}
+use Rattle.std.proofs.lemmas.Slice.{take-put_mid}
 use Rattle.std.proofs.lemmas.Bool.{lt-ltb}
 use Rattle.stations.specs.declared.fault.Fault.{Fault}
 use Rattle.stations.specs.declared.fault.Code.TheVariants.{PageNumber}
@@ -35,8 +35,8 @@ seen p (node l cs) r alive g = g
 pub read-seen : (b : Book) (n p : ℕ) (r : Result Page Fault) → p < n → IsLive (slot b p) → Reads b n p r → Seen (slot b p) r
 read-seen b n p r below alive h = seen p (slot b p) r alive (subst (λ t. MatchBool t (Gives p (slot b p) r) (r ≡ Err (fault PageNumber p 0))) (lt-ltb p n below) h)
 
-pub shown-bytes : (s : Slot) (page : Page) → Shows s page → page_with page.level (take page.len page.entries) ≡ slot_bytes s
-shown-bytes s page h = ap (λ l. page_with l (take page.len page.entries)) h.levels ∙ ap (page_with (level s)) h.shown
+pub shown-bytes : (s : Slot) (page : Page) → Shows s page → page_with page.level page.entries.items ≡ slot_bytes s
+shown-bytes s page h = ap (λ l. page_with l page.entries.items) h.levels ∙ ap (page_with (level s)) h.shown
 
 module _ (b : Book) (p : ℕ) (below : p < length b) where
   bytes-more : book_bytes (take (p + 1) b) ≡ book_bytes (take p b) ++ slot_bytes (slot b p)
@@ -44,14 +44,8 @@ module _ (b : Book) (p : ℕ) (below : p < length b) where
   bytes-more = ap (flat_map slot_bytes) (take_more b p dead below) ∙ sym (flat_map_more slot_bytes [] (take p b) (slot b p))
 
   -- one more page is written
-  module _ (old book page : List ℕ) (k : ℕ) (is : page ≡ slot_bytes (slot b p)) (full : length page ≡ 256) (k-is : k ≡ 256) (room : 256 * length b ≤ length book) where
-    pub page-more : take (256 * p) book ≡ book_bytes (take p b) → take (256 * (p + 1)) (put_mid (256 * p) k book page) ≡ book_bytes (take (p + 1) b)
-    page-more inv =
-        take-put_mid (256 * p) k book page (256 * (p + 1)) (omega arith) (omega arith)
-        ∙ ap (λ front. front ++ page) inv ∙ ap (λ x. book_bytes (take p b) ++ x) is ∙ sym bytes-more
-
-    pub rest_more : drop (256 * p) book ≡ drop (256 * p) old → drop (256 * (p + 1)) (put_mid (256 * p) k book page) ≡ drop (256 * (p + 1)) old
-    rest_more inv =
-        let next : 256 * p + 256 ≡ 256 * (p + 1) = omega arith in
-        drop-put_mid (256 * p) k book page (256 * (p + 1)) (omega arith) (omega arith) (full ∙ sym k-is)
-        ∙ ap (λ n. drop n book) (sym next) ∙ sym (drop-drop 256 (256 * p) book) ∙ ap (drop 256) inv ∙ drop-drop 256 (256 * p) old ∙ ap (λ n. drop n old) next
+  pub page-more : (book page : List ℕ) (k : ℕ) → page ≡ slot_bytes (slot b p) → length page ≡ 256 → k ≡ 256 → 256 * length b ≤ length book
+      → take (256 * p) book ≡ book_bytes (take p b) → take (256 * (p + 1)) (put_mid (256 * p) k book page) ≡ book_bytes (take (p + 1) b)
+  page-more book page k is full k-is room inv =
+      take-put_mid (256 * p) k book page (256 * (p + 1)) (omega arith) (omega arith)
+      ∙ ap (λ front. front ++ page) inv ∙ ap (λ x. book_bytes (take p b) ++ x) is ∙ sym bytes-more

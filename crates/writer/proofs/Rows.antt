@@ -1,9 +1,10 @@
 -- Rows in code order: sound where the row is, and then not refused.
-use Rattle.std.proofs.Common.{◌≡◌, ℕ, zero, suc, ◌+◌, ◌^◌, ◌<◌, ◌≤◌, Bool, true, false, ◌||◌, eqb, ltb, List, [], ◌∷◌, ◌++◌, length, None, Option, sym, refl, ap, ◌∙◌, subst, arith}
+use Rattle.std.proofs.Common.{◌≡◌, ℕ, zero, suc, ◌+◌, ◌^◌, ◌<◌, ◌≤◌, Bool, false, eqb, ltb, List, [], ◌∷◌, ◌++◌, length, None, Option, sym, refl, ap, ◌∙◌, subst, arith}
 use Rattle.std.specs.List.{AllByRecursion as Each, range_with_len}
 use Rattle.std.proofs.lemmas.List.{append_assoc}
 use Rattle.std.proofs.ByRecursion.{All-append, All-get_or, All-map}
-use Rattle.std.proofs.lemmas.Bool.{ne_eqb, eq-eqb, le-ltb}
+use Rattle.std.proofs.lemmas.Bool.Decides.{nat_tests}
+use Rattle.std.proofs.lemmas.Bool.{eq-eqb, le-ltb}
 use Rattle.stations.specs.declared.fault.Fault.{Fault}
 use Rattle.stations.specs.declared.fault.Code.TheVariants.{OutOfRange, TooManyStations, RepeatedNumber}
 use Rattle.stations.specs.declared.station.Station.{Station}
@@ -29,23 +30,18 @@ use Rattle.writer.proofs.Books.{book-back, book-loads}
 
 -- neither of two checks refuses
 fine : (t : Bool) (f : Fault) (later : Option Fault) → t ≡ false → later ≡ None → or_else (refuse_if t f) later ≡ None
-fine t f later e h = ap (λ u. or_else (refuse_if u f) later) e ∙ h
+fine t f later e h = rw e h
 
 zero-fine : (i : ℕ) (row : List Station) → Each (λ s. 1 ≤ s.number) row → zero_fault i row ≡ None
 zero-fine i [] h = refl
-zero-fine i (s ∷ ss) h = let some = h.0 in fine (eqb s.number 0) (fault OutOfRange i 0) (zero_fault (suc i) ss) (ne_eqb s.number 0 (λ e. omega arith)) (zero-fine (suc i) ss h.1)
+zero-fine i (s ∷ ss) h = let some = h.0 in fine (eqb s.number 0) (fault OutOfRange i 0) (zero_fault (suc i) ss) (grind (arith, nat_tests)) (zero-fine (suc i) ss h.1)
 
 held_le : (n : ℕ) (row : List Station) → bit (holds_number n row) ≤ count (numbered n) row
 held_le n [] = omega arith
-held_le n (s ∷ ss) = by (eqb s.number n) (holds_number n ss) (held_le n ss)
-  where
-    by : (t u : Bool) → bit u ≤ count (numbered n) ss → bit (t || u) ≤ bit t + count (numbered n) ss
-    by true u h = omega arith
-    by false u h = omega arith
+held_le n (s ∷ ss) = grind (arith, nat_tests, held_le n ss)
 
 no-bit : (t : Bool) → bit t ≤ 0 → t ≡ false
-no-bit true h = let no_way : ⊥ = omega arith in absurd no_way
-no-bit false h = refl
+no-bit t h = grind arith
 
 repeat_fine : (earlier : List Station) (i : ℕ) (row : List Station) → ((n : ℕ) → count (numbered n) (earlier ++ row) ≤ 1) → repeat_fault earlier i row ≡ None
 repeat_fine earlier i [] h = refl

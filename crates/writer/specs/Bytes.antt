@@ -28,6 +28,7 @@ station_bytes s = long_bytes s.number ++ measures_bytes s.at
 abbrev pub child_bytes : Child → List ℕ
 child_bytes c = short_bytes c.page ++ measures_bytes c.bounds.low ++ measures_bytes c.bounds.high
 
+-- an entry: a named page or a station
 abbrev pub entry_bytes : Entry → List ℕ
 entry_bytes (entries.Page c) = child_bytes c
 entry_bytes (entries.Station s) = station_bytes s
@@ -40,6 +41,7 @@ filled bytes = bytes ++ replicate (256 - length bytes) 0
 abbrev pub page_with : ℕ → List Entry → List ℕ
 page_with l es = filled (l ∷ length es ∷ 0 ∷ 0 ∷ 0 ∷ 0 ∷ 0 ∷ 0 ∷ flat_map entry_bytes es)
 
+-- a page of a book: its level and its entries
 abbrev pub slot_bytes : Slot → List ℕ
 slot_bytes s = page_with (level s) (entries_on s)
 

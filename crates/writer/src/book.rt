@@ -1,5 +1,5 @@
 // A row's roll written as a stored book.
-ghost use Rattle.std.specs.Prelude.{◌≡◌, ◌*◌, ◌≤◌, length, take, drop, Some, None, Ok, MatchResult};
+ghost use Rattle.std.specs.Prelude.{◌≡◌, ◌*◌, ◌≤◌, length, Some, None, Ok, MatchResult};
 ghost use Rattle.stations.specs.Rows.{row_fault};
 ghost use Rattle.rolls.specs.Rolls.{roll_book};
 ghost use Rattle.writer.specs.Bytes.{book_bytes};
@@ -10,18 +10,7 @@ use crate::keys::CodeKey;
 use crate::order::sort_by_code;
 use rolls::Roll;
 use sources::PageSource;
-use stations::{Code, Fault, MOST_STATIONS, Measures, Station};
-
-// What stands in a row before a station is put there.
-const NOWHERE: Station = Station {
-    number: 0,
-    at: Measures {
-        m1: 0,
-        m2: 0,
-        m3: 0,
-        m4: 0,
-    },
-};
+use stations::{Code, Fault, Station};
 
 // How many pages the row's roll has, or why the row is refused.
 fn count_pages(row: &[Station]) -> Result<usize, Fault>
@@ -32,18 +21,18 @@ fn count_pages(row: &[Station]) -> Result<usize, Fault>
     Ok(roll.pages() as usize)
 }
 
-// Writes the pages of the row's roll, one after the other. A row that may be read as a book is never refused.
+// Fills the buffer with the pages of the row's roll, one after the other. A row that may be read as a book is never refused.
 fn write_pages(row: &[Station], book: &mut [u8]) -> Result<(), Fault>
     requires fine { row_fault row.now ≡ None }
-    requires room { 256 * length (roll_book row.now) ≤ length book.old }
+    requires places { length book.old ≡ 256 * length (roll_book row.now) }
     ensures done { result ≡ Ok tt }
-    ensures bytes { take (256 * length (roll_book row.now)) book.new ≡ book_bytes (roll_book row.now) }
-    ensures after { drop (256 * length (roll_book row.now)) book.new ≡ drop (256 * length (roll_book row.now)) book.old }
+    ensures bytes { book.new ≡ book_bytes (roll_book row.now) }
 {
     let mut roll = Roll::new();
     roll.load(row)?;
+    // Not by `chunks_exact_mut`: a proof does not know what its parts leave in the buffer.
     for p in 0..roll.pages() {
-        let page = encode(roll.read(p)?);
+        let page = encode(&roll.read(p)?);
         let from = PAGE * p as usize;
         book[from..from + PAGE].copy_from_slice(&page);
     }
@@ -56,14 +45,9 @@ pub fn write_book(row: &[Station], work: &mut [CodeKey], book: &mut [u8]) -> Res
 {
     let pages = count_pages(row)?;
     if work.len() < row.len() || book.len() < PAGE * pages {
-        return Err(Fault {
-            code: Code::ShortBuffer,
-            first: 0,
-            second: 0,
-        });
+        return Err(Code::ShortBuffer.into());
     }
-    let mut sorted = [NOWHERE; MOST_STATIONS];
-    sort_by_code(row, work, &mut sorted);
-    write_pages(&sorted[0..row.len()], book)?;
+    let sorted = sort_by_code(row, &mut work[..row.len()]);
+    write_pages(sorted.as_slice(), &mut book[..PAGE * pages])?;
     Ok(PAGE * pages)
 }

@@ -10,8 +10,7 @@ mod order;
 pub use book::write_book;
 pub use keys::CodeKey;
 
-pub fn written_books_read_back() -> u8
+// A book that is written is read back as the roll of the row in code order.
+pub fn written_books_read_back()
     ensures { WrittenBooksReadBack }
-{
-    0
-}
+{}

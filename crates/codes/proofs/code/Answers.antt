@@ -3,11 +3,8 @@ use Rattle.codes.specs.Codes.{Interleaved, Alone}
 use Rattle.codes.proofs.Laws.{code_interleaved, code_apart}
 use Rattle.codes.proofs.code.Goals as goal
 
-pub returns : goal.returns
-returns c =
-    let p = c.args.at in
-    record {
-      value = search rules;
-      bits = subst (Interleaved p) (search rules) (code_interleaved p);
-      apart = subst (Alone p) (search rules) (code_apart p (search rules));
-    }
+pub returns-clause-bits : goal.returns-clause-bits
+returns-clause-bits c = subst (Interleaved c.args.at) (search rules) (code_interleaved c.args.at)
+
+pub returns-clause-apart : goal.returns-clause-apart
+returns-clause-apart c = subst (Alone c.args.at) (search rules) (code_apart c.args.at (search rules))

@@ -8,11 +8,11 @@ use Rattle.picking.proofs.Picking.{asked, loaded, refused_asking}
 use Rattle.picking.proofs.Promising.{ask_promises}
 use Rattle.picking.proofs.ask.Goals as goal
 
-pub returns-in-Ok-load : goal.returns-in-Ok-load
-returns-in-Ok-load c =
+pub returns : goal.returns
+returns c =
     let a = c.in-Ok.ensures in
     let bytes = c.args.book.now in
-    let fine = verdict-ok (load_fault bytes) c.in-Ok-load.ensures.answer in
+    let fine = verdict-ok (load_fault bytes) c.in_default.ensures.answer in
     let k = asked a a.accepted bytes fine (book_of c.load.new.self) (loaded bytes (book_of c.new-stored.result) (book_of c.load.new.self) fine c.load.ensures.book) in
     record {
       promised = ask_promises bytes c.args.text.now;
@@ -26,7 +26,7 @@ returns-in-Err c =
     let k = refused_asking bytes text c.in-Err.fault (at_some (log_fault 0 text) (load_fault bytes) c.in-Err.fault c.in-Err.ensures.refused) in
     record {
       promised = ask_promises bytes text;
-      prints = prints_as _ _ _ _ c.args.print.now c.refuse-in-Err.new.print c.refuse-in-Err.result k.0 k.1 c.refuse-in-Err.ensures;
+      prints = prints_as _ _ _ _ c.args.print.now c.refuse.new.print c.refuse.result k.0 k.1 c.refuse.ensures;
     }
 
 pub returns-in-Err-load : goal.returns-in-Err-load
@@ -37,5 +37,5 @@ returns-in-Err-load c =
     let k = refused_asking bytes text c.in-Err-load.fault (after_none (log_fault 0 text) (load_fault bytes) a.accepted ∙ verdict-err (load_fault bytes) c.in-Err-load.fault c.in-Err-load.ensures.answer) in
     record {
       promised = ask_promises bytes text;
-      prints = prints_as _ _ _ _ c.args.print.now c.refuse.new.print c.refuse.result k.0 k.1 c.refuse.ensures;
+      prints = prints_as _ _ _ _ c.args.print.now c.refuse-in-Err-load.new.print c.refuse-in-Err-load.result k.0 k.1 c.refuse-in-Err-load.ensures;
     }

@@ -1,4 +1,4 @@
-use Rattle.std.proofs.Common.{◌-◌, take, ap, ◌∙◌}
+use Rattle.std.proofs.Common.{take, ap, ◌∙◌}
 use Rattle.rolls.specs.Rolls.{roll_book}
 use Rattle.rolls.specs.Source.{book_of, row_in, taken}
 use Rattle.logs.proofs.ReadAs.{row-sound}
@@ -7,13 +7,13 @@ use Rattle.picking.proofs.Picking.{never_refused, picked, refused_text}
 use Rattle.picking.proofs.Promising.{pick_promises, picks-answer}
 use Rattle.picking.proofs.pick.Goals as goal
 
-pub returns-in_err-load-in-Ok : goal.returns-in_err-load-in-Ok
-returns-in_err-load-in-Ok c = never_refused c.in_err-load-in-Ok.field-0.0 _ c.in_err-load-in-Ok.ensures.answer (row-sound c.in-Ok.ensures)
+pub returns-in_err-load : goal.returns-in_err-load
+returns-in_err-load c = never_refused c.in_err-load.field-0.0 _ c.in_err-load.ensures.answer (row-sound c.in-Ok.ensures)
 
-pub returns-in_ok-load-in-Ok : goal.returns-in_ok-load-in-Ok
-returns-in_ok-load-in-Ok c =
+pub returns : goal.returns
+returns c =
     let a = c.in-Ok.ensures in
-    let row = take (c.in-Ok.log.count - 0) c.read_log.new.row in
+    let row = take c.in-Ok.log.count c.read_log.new.row in
     let b = ap roll_book (c.load.ensures.row ∙ ap (λ o. taken o row (row_in c.new-roll.result)) (row-sound a)) in
     let k = picked a a.accepted (book_of c.load.new.self) b in
     record {

@@ -1,5 +1,4 @@
-use Rattle.std.proofs.Common.{◌≤◌, take, ap, ◌∙◌, subst, arith, rules}
-use native.Mathlib.Nat.{sub-zero}
+use Rattle.std.proofs.Common.{◌≤◌, refl, subst, arith, rules}
 use Rattle.rankings.specs.Scores.{ranker_score}
 use Rattle.printing.specs.Printed.{listing, Printed}
 use Rattle.scans.proofs.Listing.{answer-short}
@@ -15,6 +14,4 @@ slice_bounds-print_listing-end c =
     search rules
 
 pub returns : goal.returns
-returns c =
-    let e = ap (λ k. take k c.scan.new.list) (sub-zero c.in_ok-n.n) ∙ c.in_ok-n.ensures.1 in
-    subst (λ found. Printed (listing (ranker_score c.args.log.now.ranking) found) c.args.print.now c.print_listing.new.out c.print_listing.result) e c.print_listing.ensures
+returns c = subst (λ found. Printed (listing (ranker_score c.args.log.now.ranking) found) c.args.print.now c.print_listing.new.out c.print_listing.result) c.in_ok-n.ensures.1 (c.print_listing.ensures.complete refl)

@@ -2,9 +2,8 @@
 ghost use Rattle.std.specs.Prelude.{◌≡◌};
 ghost use Rattle.rolls.specs.Source.{book_of, pages_in, reads_of, roll_laws};
 
-use crate::place::place_of;
+use crate::place::Place;
 use crate::roll::Roll;
-use crate::showing::page_at;
 use sources::{Page, PageSource};
 use stations::{Code, Fault};
 
@@ -29,13 +28,9 @@ impl<'a> PageSource for Roll<'a> {
 
     fn read(&mut self, page: u32) -> Result<Page, Fault> {
         self.meter = self.meter.wrapping_add(1);
-        match place_of(self.row, page as usize) {
-            Some(place) => Ok(page_at(self.row, place)),
-            None => Err(Fault {
-                code: Code::PageNumber,
-                first: page,
-                second: 0,
-            }),
+        match Place::find(self.row, page as usize) {
+            Some(place) => Ok(place.page()),
+            None => Err(Code::PageNumber.at(page, 0)),
         }
     }
 }

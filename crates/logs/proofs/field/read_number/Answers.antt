@@ -1,24 +1,47 @@
-use Rattle.std.proofs.Common.{◌≡◌, ◌<◌, false, length, get_or, Some, sym, ap, ◌∙◌, arith}
-use Rattle.std.specs.Char.{is_ascii_digit}
-use Rattle.std.proofs.lemmas.Bool.{cond-true, cond-false}
-use Rattle.std.proofs.lemmas.Bool.Decides.{nat_tests}
-use Rattle.logs.proofs.Spelling.{spelled-from}
-use Rattle.logs.proofs.Digits.{no_digit, digit_more, digits-read}
+use Rattle.std.proofs.Common.{◌≡◌, ◌<◌, ◌≤◌, ◌⊎◌, true, ◌++◌, length, get_or, drop, sym, ap, ◌∙◌, inl, inr, arith}
+use Rattle.std.proofs.lemmas.List.{take_rest}
+use Rattle.logs.specs.Tokens.{front, is_end}
+use Rattle.logs.proofs.Cuts.{front_whole}
+use Rattle.logs.proofs.Spelling.{all_read, runs_on, empty_first, zero-first, first_byte, spelled-from}
 use Rattle.logs.proofs.field.read_number.Goals as goal
-use Rattle.logs.proofs.field.read_number.Goals.{then-b-lt48-via-then-b-lt48, then-b-lt48-via-else-b-lt48+then-b-gt57}
+use Rattle.logs.proofs.field.read_number.Goals.{then-len-eq0-via-then-len-eq0, then-len-eq0-via-else-len-eq0+then-not-is_end, else-text-eq48-via-then-text-eq48+else-len-gt1, else-text-eq48-via-else-text-eq48}
 
-pub returns-then-b-lt48 : goal.returns-then-b-lt48
-returns-then-b-lt48 c =
-    let bs = c.args.bytes.now in
-    let bad : is_ascii_digit (get_or bs c.loop-b.b-index 0) ≡ false = elim c.then-b-lt48.branch [ then-b-lt48-via-then-b-lt48 w ↦ grind (arith, nat_tests) | then-b-lt48-via-else-b-lt48+then-b-gt57 w ↦ grind (arith, nat_tests) ] in
-    sym (cond-false _ _ _ (no_digit bs c.loop-b.b-index c.loop-b-test.true bad c.loop-b.invariant.0))
+pub returns-then-len-eq0 : goal.returns-then-len-eq0
+returns-then-len-eq0 c =
+    let text = c.args.text.now in
+    let n = c.read_digits-number.result.number in
+    let len = c.read_digits-number.result.len in
+    let so = c.read_digits-number.ensures in
+    elim c.then-len-eq0.branch [
+      | then-len-eq0-via-then-len-eq0 w ↦ empty_first text n len so.read w.if-len-eq0.true so.stops
+      | then-len-eq0-via-else-len-eq0+then-not-is_end w ↦ runs_on text n len so.read so.most so.stops (ap is_end (sym (take_rest text len)) ∙ sym w.is_end.ensures ∙ w.if-not-is_end.true)
+    ]
 
-pub loop-b-preserved : goal.loop-b-preserved
-loop-b-preserved c = digit_more c.args.bytes.now c.loop-b.b-index c.loop-b.n c.loop-b-test.true c.if-b-lt48.false c.if-b-gt57.false c.loop-b.invariant
+pub returns-then-len-gt1 : goal.returns-then-len-gt1
+returns-then-len-gt1 c =
+    let text = c.args.text.now in
+    let len = c.read_digits-number.result.len in
+    let ends : is_end (drop len text) ≡ true = ap is_end (sym (take_rest text len)) ∙ sym c.is_end.ensures ∙ c.if-not-is_end.false in
+    let read = all_read text c.read_digits-number.result.number len c.read_digits-number.ensures.read ends in
+    zero-first (front text) (first_byte text (omega (arith, read.2)) ∙ c.if-text-eq48.true) (omega (arith, read.2))
 
 pub returns : goal.returns
 returns c =
-    let bs = c.args.bytes.now in
-    let read = digits-read bs c.loop-b.b-index c.loop-b.n c.loop-b-test.false c.loop-b.invariant in
-    let some : 0 < length bs = omega arith in
-    ap Some read.1 ∙ sym (cond-true _ _ _ (spelled-from bs some c.if-bytes-gt-MOST_DIGITS.false c.else-bytes-eq48.either read.0))
+    let text = c.args.text.now in
+    let field = front text in
+    let len = c.read_digits-number.result.len in
+    let so = c.read_digits-number.ensures in
+    let ends : is_end (drop len text) ≡ true = ap is_end (sym (take_rest text len)) ∙ sym c.is_end.ensures ∙ c.if-not-is_end.false in
+    let read = all_read text c.read_digits-number.result.number len so.read ends in
+    let some : 0 < length field = omega (arith, read.2) in
+    let first = first_byte text some in
+    let lead : ((get_or field 0 0 ≡ 48) × (length field ≤ 1)) ⊎ (get_or field 0 0 ≡ 48 → ⊥) =
+    elim c.else-text-eq48.either [
+      | inl e ↦ inl (first ∙ e.0, omega (arith, read.2, e.1))
+      | inr e ↦ inr (λ z. e (sym first ∙ z))
+    ] in
+    record {
+      written = spelled-from field some (omega (arith, read.2, so.most)) lead read.0;
+      says = read.1;
+      whole = front_whole text ∙ ap (λ n. front text ++ drop n text) (sym read.2) ∙ ap (λ xs. front text ++ xs) (sym (take_rest text len));
+    }

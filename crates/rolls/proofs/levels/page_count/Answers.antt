@@ -1,6 +1,6 @@
 use Rattle.std.proofs.Common.{◌≤◌, rules}
 use Rattle.rolls.proofs.Spans.{top-low, few-pages}
-use Rattle.rolls.proofs.Counts.{counted-more, counted-few, counted-all}
+use Rattle.rolls.proofs.Counts.{counted-few}
 use Rattle.rolls.proofs.levels.page_count.Goals as goal
 
 pub overflow_add-pages : goal.overflow_add-pages
@@ -9,9 +9,3 @@ overflow_add-pages c =
     let more : c.pages_of-pages.result ≤ 96 = rw c.pages_of-pages.ensures (few-pages c.args.len c.loop-level.level c.requires) in
     let low = top-low c.args.len in
     search rules
-
-pub loop-level-preserved : goal.loop-level-preserved
-loop-level-preserved c = counted-more c.args.len c.loop-level.level c.loop-level.pages c.pages_of-pages.result c.loop-level.invariant c.pages_of-pages.ensures
-
-pub returns : goal.returns
-returns c = counted-all c.args.len c.loop-level.level c.top_level-level-end.result c.loop-level.pages c.top_level-level-end.ensures c.loop-level-test.false c.loop-level.auto.level-end c.loop-level.invariant

@@ -7,8 +7,7 @@ use Rattle.stored.proofs.walk.check_pages.Given as goal
 -- what is left decides the fault, and the marks in the end; a page lists at most 12 numbers
 abbrev pub invariant-loop-p : goal.invariant-loop-p
 invariant-loop-p l =
-    (walk_fault (page_count l.bytes) l.p l.notes (listed l.numbers) (drop l.p (pages_in l.bytes))
+    (walk_fault (length l.pages) l.p l.seen.notes (listed l.seen.numbers) (drop l.p l.pages)
     ≡ walk_fault (page_count l.bytes) 0 no_notes [] (pages_in l.bytes))
-    × (take l.p l.live ++ marks (slots_from l.p l.notes (drop l.p (pages_in l.bytes))) ≡ marks (slots_from 0 no_notes (pages_in l.bytes)))
-    × (l.numbers.len ≤ 12 * l.p)
-    × (length l.notes ≡ 256)
+    × (take l.p l.live ++ marks (slots_from l.p l.seen.notes (drop l.p l.pages)) ≡ marks (slots_from 0 no_notes (pages_in l.bytes)))
+    × (length (listed l.seen.numbers) ≤ 12 * l.p)

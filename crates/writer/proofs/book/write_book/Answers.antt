@@ -1,4 +1,5 @@
-use Rattle.std.proofs.Common.{◌≡◌, ◌-◌, ◌*◌, ◌<◌, ◌≤◌, ◌⊎◌, length, take, Err, sym, refl, ap, ◌∙◌, subst, inl, inr, arith}
+use Rattle.std.proofs.Common.{◌≡◌, ◌*◌, ◌<◌, ◌≤◌, ◌⊎◌, length, drop, Some, Err, sym, refl, ap, ◌∙◌, subst, inl, inr, arith}
+use Rattle.std.proofs.lemmas.List.{length-take-le, drop_at}
 use Rattle.std.proofs.lemmas.Result.{err_from_is_err_and}
 use Rattle.rolls.specs.Rolls.{roll_book}
 use Rattle.writer.specs.Keys.{code_order}
@@ -26,31 +27,34 @@ returns-then-work-row c =
       | then-work-row-via-then-work-row w ↦ inl w.if-work-row.true
       | then-work-row-via-else-work-row+then-book-pages w ↦ inr (let k = w.if-book-pages.true in omega arith)
     ] in
-    (short-refused row (length c.args.work.now) (length c.args.book.now) counted.0 short, refl, refl)
+    let fault = short-refused row (length c.args.work.now) (length c.args.book.now) counted.0 short in
+    (fault ∙ ap Some (sym c.into.ensures), refl, refl)
 
 pub write_pages-requires : goal.write_pages-requires
 write_pages-requires c =
     let row = c.args.row.now in
     let counted = c.in_ok-pages.ensures in
     let many = counted.1 in
-    let all : length row - 0 ≡ length row = omega arith in
-    let sorted = take (length row - 0) c.sort_by_code.new.sorted in
-    let order : sorted ≡ code_order row = ap (λ n. take n c.sort_by_code.new.sorted) all ∙ c.sort_by_code.ensures.order in
-    let fine = storable row counted.0 c.sort_by_code.ensures.numbers c.sort_by_code.ensures.measures in
+    let sorted = c.as_slice.result.now in
+    let order : sorted ≡ code_order row = c.as_slice.ensures.value ∙ c.sort_by_code-sorted.ensures.order in
+    let fine = storable row counted.0 c.sort_by_code-sorted.ensures.numbers c.sort_by_code-sorted.ensures.measures in
     let same = order-pages row sorted order in
-    record { fine = order-fine row sorted fine order; room = omega arith }
+    let cut = length-take-le (256 * c.in_ok-pages.pages) c.args.book.now (omega arith) in
+    record { fine = order-fine row sorted fine order; places = omega arith }
 
 pub returns : goal.returns
 returns c =
     let row = c.args.row.now in
     let counted = c.in_ok-pages.ensures in
     let many = counted.1 in
-    let all : length row - 0 ≡ length row = omega arith in
-    let sorted = take (length row - 0) c.sort_by_code.new.sorted in
-    let order : sorted ≡ code_order row = ap (λ n. take n c.sort_by_code.new.sorted) all ∙ c.sort_by_code.ensures.order in
-    let fine = storable row counted.0 c.sort_by_code.ensures.numbers c.sort_by_code.ensures.measures in
+    let sorted = c.as_slice.result.now in
+    let order : sorted ≡ code_order row = c.as_slice.ensures.value ∙ c.sort_by_code-sorted.ensures.order in
+    let fine = storable row counted.0 c.sort_by_code-sorted.ensures.numbers c.sort_by_code-sorted.ensures.measures in
     let places : length row ≤ length c.args.work.now = c.if-work-row.false in
+    let cut = length-take-le (256 * c.in_ok-pages.pages) c.args.book.now (omega arith) in
+    let keys = c.sort_by_code-sorted.new.keys in
+    let kept = drop_at keys (drop (length row) c.args.work.now) (length row) (let n = length-take-le (length row) c.args.work.now places in omega arith) in
     let bytes : 256 * length (roll_book row) ≤ length c.args.book.now = omega arith in (
       none-refused row (length c.args.work.now) (length c.args.book.now) counted.0 places bytes,
-      written row sorted c.args.work.now c.sort_by_code.new.work c.args.book.now c.write_pages.new.book c.in_ok-pages.pages fine order many c.write_pages.ensures.bytes c.write_pages.ensures.after c.sort_by_code.ensures.kept,
+      written row sorted c.args.work.now _ c.args.book.now c.write_pages.new.book c.in_ok-pages.pages fine order many c.write_pages.ensures.bytes (omega arith) kept,
     )

@@ -1,17 +1,17 @@
-use Rattle.std.proofs.Common.{◌≡◌, ◌+◌, ◌-◌, ◌*◌, ◌<◌, ◌≤◌, length, take, drop, Err, sym, refl, ap, ◌∙◌, subst, arith}
+use Rattle.std.proofs.Common.{◌≡◌, ◌+◌, ◌-◌, ◌*◌, ◌<◌, ◌≤◌, length, take, Err, sym, refl, ap, ◌∙◌, arith}
 use Rattle.std.proofs.lemmas.List.{take_all}
 use Rattle.books.specs.Books.{slot}
 use Rattle.rolls.specs.Rolls.{roll_book}
 use Rattle.rolls.specs.Source.{book_of, roll_laws}
 use Rattle.writer.specs.Bytes.{slot_bytes, book_bytes}
-use Rattle.writer.proofs.Pages.{loaded, read-seen, shown-bytes, page-more, rest_more}
+use Rattle.writer.proofs.Pages.{loaded, read-seen, shown-bytes, page-more}
 use Rattle.writer.proofs.Rows.{roll_live}
 use Rattle.writer.proofs.Spelling.{slot-length}
 use Rattle.writer.proofs.book.write_pages.Goals as goal
 
 pub loop-p-init : goal.loop-p-init
 unfolding book_bytes
-loop-p-init c = (refl, refl, refl)
+loop-p-init c = (refl, refl)
 
 pub returns-in_err-read : goal.returns-in_err-read
 returns-in_err-read c =
@@ -39,8 +39,7 @@ loop-p-preserved c =
     let part : 256 * p + 256 - 256 * p ≡ 256 = omega arith in
     let room : 256 * length b ≤ length c.loop-p.book = omega arith in (
       c.read.ensures.same ∙ c.loop-p.invariant.0,
-      page-more b p below c.args.book.now c.loop-p.book c.copy_from_slice.new.self _ bytes full part room c.loop-p.invariant.1,
-      rest_more b p below c.args.book.now c.loop-p.book c.copy_from_slice.new.self _ bytes full part room c.loop-p.invariant.2,
+      page-more b p below c.loop-p.book c.copy_from_slice.new.self _ bytes full part room c.loop-p.invariant.1,
     )
 
 pub returns : goal.returns
@@ -51,10 +50,8 @@ returns c =
     let is-roll = loaded c.load.new.self row _ c.requires.fine c.load.ensures.row in
     let many = ap length is-roll in
     let end = c.pages-p-end.ensures in
-    let all : p ≡ length (roll_book row) = omega arith in
     let whole : take p b ≡ roll_book row = take_all p b (omega arith) ∙ is-roll in
     record {
       done = refl;
-      bytes = ap (λ n. take (256 * n) c.loop-p.book) (sym all) ∙ c.loop-p.invariant.1 ∙ ap book_bytes whole;
-      after = subst (λ n. drop (256 * n) c.loop-p.book ≡ drop (256 * n) c.args.book.now) all c.loop-p.invariant.2;
+      bytes = sym (take_all (256 * p) c.loop-p.book (omega arith)) ∙ c.loop-p.invariant.1 ∙ ap book_bytes whole;
     }

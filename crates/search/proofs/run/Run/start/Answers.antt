@@ -1,20 +1,14 @@
 use Rattle.std.proofs.Common.{refl}
+use Rattle.std.proofs.lemmas.Result.{err_from_is_err_and}
 use Rattle.search.proofs.Producing.{start-refused, start-accepted}
 use Rattle.search.proofs.run.Run.start.Goals as goal
 
-pub returns-in-Err : goal.returns-in-Err
-returns-in-Err g c =
-    record {
-      source = refl;
-      ranking = refl;
-      produces = λ rank b h stood m p. start-refused g.S.PageSource.book g.S.PageSource.meter g.R.Ranking.score rank b h stood m c.args.self.now p c.args.question c.in-Err.fault c.in-Err.ensures;
-    }
+pub returns-in_err-check-clause-produces : goal.returns-in_err-check-clause-produces
+returns-in_err-check-clause-produces g c =
+    let p = err_from_is_err_and c.from_residual.result c.from_residual.ensures.1 in
+    rw (p.1, p.2) (start-refused g.S.PageSource g.R.Ranking c.args.self.now c.args.question c.in_err-check.field-0.0 c.in_err-check.ensures)
 
-pub returns-in-Ok : goal.returns-in-Ok
-returns-in-Ok g c =
+pub returns-clause-produces : goal.returns-clause-produces
+returns-clause-produces g c =
     let o = c.clear.ensures in
-    record {
-      source = o.source;
-      ranking = o.ranking;
-      produces = λ rank b h stood m p. start-accepted g.S.PageSource.book g.S.PageSource.meter g.R.Ranking.score rank b h stood m c.args.self.now p c.args.question _ c.in-Ok.ensures (g.S.PageSource.laws.metered c.args.self.now.source) o.source o.ranking refl o.phase o.none;
-    }
+    start-accepted g.S.PageSource g.R.Ranking c.args.self.now _ c.args.question c.in_ok-check.ensures o.source o.ranking refl o.phase o.none

@@ -1,71 +1,49 @@
-use Rattle.std.proofs.Common.{Some, None, Ok, Err, sym, refl, subst, arith}
+use Rattle.std.proofs.Common.{◌≡◌, arith, rules}
+use Rattle.std.proofs.lemmas.Result.{err_from_is_err_and}
+use Rattle.stations.specs.declared.fault.Code.TheVariants.{ListFull}
+use Rattle.stations.specs.Faults.{fault}
 use Rattle.waiting.specs.Held.{held, listing}
-use Rattle.waiting.specs.States.{Opens, Turned}
-use Rattle.search.specs.Runs.{query_of}
 use Rattle.search.proofs.Runs as runs
-use Rattle.search.proofs.Runs.{popped_used}
+use Rattle.search.proofs.Runs.{popped_used, refused-before, passed-before}
 use Rattle.search.proofs.run.Run.turn.Goals as goal
 
-pub returns-in_default : goal.returns-in_default
-returns-in_default g c =
-    let r = c.args.self.now in
-    record {
-      kept = record { source = record { same = refl; counted = refl; ranking = refl }; question = refl; metered = λ m h. h };
-      phase = refl;
-      falls = tt;
-      turns = λ u h. runs.ended g.S.PageSource.book g.S.PageSource.pages g.S.PageSource.meter g.R.Ranking.score g.S.PageSource.laws g.met.R.Ranking.monotone r u h (held c.pop.new.self) c.in_default.ensures.0;
-    }
+pub returns-in_default-clause-turns : goal.returns-in_default-clause-turns
+returns-in_default-clause-turns g c u h = runs.ended g.S.PageSource g.R.Ranking g.met.R.Ranking.monotone c.args.self.now u h (held c.pop.new.self) c.in_default.ensures.0
 
-pub returns-then-not-passes : goal.returns-then-not-passes
-returns-then-not-passes g c =
-    let r = c.args.self.now in
-    record {
-      kept = record { source = record { same = refl; counted = refl; ranking = refl }; question = refl; metered = λ m h. h };
-      phase = refl;
-      falls = omega (arith, popped_used r.waiting c.pop.new.self c.in-Some.first c.in-Some.ensures);
-      turns = λ u h. runs.aside g.S.PageSource.book g.S.PageSource.pages g.S.PageSource.meter g.R.Ranking.score g.S.PageSource.laws g.met.R.Ranking.monotone r u h c.in-Some.first (held c.pop.new.self) c.in-Some.ensures (sym (c.if-not-passes.ensures (g.R.Ranking.score r.ranking)));
-    }
+pub returns-then-not-passes-clause-falls : goal.returns-then-not-passes-clause-falls
+returns-then-not-passes-clause-falls g c = omega (arith, popped_used c.args.self.now.waiting c.pop.new.self c.in-Some.first c.in-Some.ensures)
 
-pub returns-then-push : goal.returns-then-push
-returns-then-push g c =
+pub returns-then-not-passes-clause-turns : goal.returns-then-not-passes-clause-turns
+returns-then-not-passes-clause-turns g c u h =
     let r = c.args.self.now in
-    record {
-      kept = record { source = record { same = refl; counted = refl; ranking = refl }; question = refl; metered = λ m h. h };
-      phase = refl;
-      falls = tt;
-      turns = λ u h. runs.handed g.S.PageSource.book g.S.PageSource.pages g.S.PageSource.meter g.R.Ranking.score g.S.PageSource.laws g.met.R.Ranking.monotone r u h c.in-Some.first (held c.pop.new.self) c.in-Some.ensures c.in-Station.station c.in-Station.is (sym (c.if-not-passes.ensures (g.R.Ranking.score r.ranking))) (listing c.push.new.self) c.if-push.ensures;
-    }
+    runs.aside g.S.PageSource g.R.Ranking g.met.R.Ranking.monotone r u h c.in-Some.first (held c.pop.new.self) c.in-Some.ensures (c.if-not-passes.ensures (g.R.Ranking.score r.query.ranking))
 
-pub returns-else-push : goal.returns-else-push
-returns-else-push g c =
+pub returns-in_err-open-in-Page-clause-turns : goal.returns-in_err-open-in-Page-clause-turns
+returns-in_err-open-in-Page-clause-turns g c u h =
     let r = c.args.self.now in
-    record {
-      kept = record { source = record { same = refl; counted = refl; ranking = refl }; question = refl; metered = λ m h. h };
-      phase = refl;
-      falls = tt;
-      turns = λ u h. runs.list_full g.S.PageSource.book g.S.PageSource.pages g.S.PageSource.meter g.R.Ranking.score g.S.PageSource.laws g.met.R.Ranking.monotone r u h c.in-Some.first (held c.pop.new.self) c.in-Some.ensures c.in-Station.station c.in-Station.is (sym (c.if-not-passes.ensures (g.R.Ranking.score r.ranking))) (listing c.push.new.self) c.if-push.ensures;
-    }
+    let o = c.in_err-open-in-Page.ensures in
+    let p = err_from_is_err_and c.from_residual.result c.from_residual.ensures.1 in
+    rw (p.1, p.2) (runs.refused g.S.PageSource g.R.Ranking g.met.R.Ranking.monotone r u h c.in-Some.first (held c.pop.new.self) c.in-Some.ensures (c.if-not-passes.ensures (g.R.Ranking.score r.query.ranking)) c.in-Page.child c.in-Page.is _ (cc) c.open.new.self o.listed c.in_err-open-in-Page.field-0.0 o.opens)
 
-pub returns-in-Ok : goal.returns-in-Ok
-returns-in-Ok g c =
+pub returns-in_err-map_err-in-Station-clause-turns : goal.returns-in_err-map_err-in-Station-clause-turns
+returns-in_err-map_err-in-Station-clause-turns g c u h =
     let r = c.args.self.now in
-    let r' = c.open.new.self in
-    let o = c.in-Ok.ensures in
-    record {
-      kept = record { source = record { same = o.kept.source.same; counted = o.kept.source.counted; ranking = o.kept.source.ranking }; question = o.kept.question; metered = o.kept.metered };
-      phase = o.phase;
-      falls = omega (arith, popped_used r.waiting c.pop.new.self c.in-Some.first c.in-Some.ensures, o.opens.1, o.few);
-      turns = λ u h. subst (λ l. Turned (query_of g.R.Ranking.score r) (g.S.PageSource.book r.source) (listing r.listed) None (held r'.waiting) (listing l) r'.opened) (sym o.listed) (runs.entered g.S.PageSource.book g.S.PageSource.pages g.S.PageSource.meter g.R.Ranking.score g.S.PageSource.laws g.met.R.Ranking.monotone r u h c.in-Some.first (held c.pop.new.self) c.in-Some.ensures c.in-Page.field-0 c.in-Page.is (sym (c.if-not-passes.ensures (g.R.Ranking.score r.ranking))) r'.waiting r'.opened (subst (λ d. Opens (query_of g.R.Ranking.score r) (g.S.PageSource.book r.source) (g.S.PageSource.pages r.source) d.page (listing r.listed) (held c.pop.new.self) (held r'.waiting) r.opened r'.opened (Ok tt)) c.in-Page.field-0-is o.opens));
-    }
+    let s = c.in-Station.station in
+    let p = err_from_is_err_and c.from_residual-in_err-map_err-in-Station.result c.from_residual-in_err-map_err-in-Station.ensures.1 in
+    let full = refused-before _ c.push.result c.map_err.result c.in_err-map_err-in-Station.field-0.0 c.map_err.ensures.cases c.in_err-map_err-in-Station.was in
+    let named : c.in_err-map_err-in-Station.field-0.0 ≡ fault ListFull s.number 0 = search rules in
+    rw (p.1, p.2, named) (runs.list_full g.S.PageSource g.R.Ranking g.met.R.Ranking.monotone r u h c.in-Some.first (held c.pop.new.self) c.in-Some.ensures (c.if-not-passes.ensures (g.R.Ranking.score r.query.ranking)) s c.in-Station.is (listing c.push.new.self) c.push.result full.0 full.1 c.push.ensures)
 
-pub returns-in-Err : goal.returns-in-Err
-returns-in-Err g c =
+pub returns-in_ok-open-in-Page-clause-falls : goal.returns-in_ok-open-in-Page-clause-falls
+returns-in_ok-open-in-Page-clause-falls g c = let o = c.in_ok-open-in-Page.ensures in omega (arith, popped_used c.args.self.now.waiting c.pop.new.self c.in-Some.first c.in-Some.ensures, o.opens.1, o.few)
+
+pub returns-in_ok-open-in-Page-clause-turns : goal.returns-in_ok-open-in-Page-clause-turns
+returns-in_ok-open-in-Page-clause-turns g c u h =
     let r = c.args.self.now in
-    let r' = c.open.new.self in
-    let o = c.in-Err.ensures in
-    record {
-      kept = record { source = record { same = o.kept.source.same; counted = o.kept.source.counted; ranking = o.kept.source.ranking }; question = o.kept.question; metered = o.kept.metered };
-      phase = o.phase;
-      falls = tt;
-      turns = λ u h. subst (λ l. Turned (query_of g.R.Ranking.score r) (g.S.PageSource.book r.source) (listing r.listed) (Some (Err c.in-Err.fault)) (held r'.waiting) (listing l) r'.opened) (sym o.listed) (runs.refused g.S.PageSource.book g.S.PageSource.pages g.S.PageSource.meter g.R.Ranking.score g.S.PageSource.laws g.met.R.Ranking.monotone r u h c.in-Some.first (held c.pop.new.self) c.in-Some.ensures c.in-Page.field-0 c.in-Page.is (sym (c.if-not-passes.ensures (g.R.Ranking.score r.ranking))) r'.waiting r'.opened c.in-Err.fault (subst (λ d. Opens (query_of g.R.Ranking.score r) (g.S.PageSource.book r.source) (g.S.PageSource.pages r.source) d.page (listing r.listed) (held c.pop.new.self) (held r'.waiting) r.opened r'.opened (Err c.in-Err.fault)) c.in-Page.field-0-is o.opens));
-    }
+    let o = c.in_ok-open-in-Page.ensures in
+    runs.entered g.S.PageSource g.R.Ranking g.met.R.Ranking.monotone r u h c.in-Some.first (held c.pop.new.self) c.in-Some.ensures (c.if-not-passes.ensures (g.R.Ranking.score r.query.ranking)) c.in-Page.child c.in-Page.is _ (cc) c.open.new.self o.listed o.opens
+
+pub returns-in_ok-map_err-in-Station-clause-turns : goal.returns-in_ok-map_err-in-Station-clause-turns
+returns-in_ok-map_err-in-Station-clause-turns g c u h =
+    let r = c.args.self.now in
+    runs.handed g.S.PageSource g.R.Ranking g.met.R.Ranking.monotone r u h c.in-Some.first (held c.pop.new.self) c.in-Some.ensures (c.if-not-passes.ensures (g.R.Ranking.score r.query.ranking)) c.in-Station.station c.in-Station.is (listing c.push.new.self) c.push.result (passed-before _ c.push.result c.map_err.result c.in_ok-map_err-in-Station.field-0 c.map_err.ensures.cases c.in_ok-map_err-in-Station.was) c.push.ensures

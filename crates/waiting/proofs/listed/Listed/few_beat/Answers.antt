@@ -8,12 +8,11 @@ use Rattle.waiting.proofs.listed.Listed.few_beat.Goals.{then-beats+else-left-le1
 
 pub returns-then-left-le1 : goal.returns-then-left-le1
 returns-then-left-le1 c =
-    let xs = c.args.self.now.stations in
-    let n = c.args.self.now.len in
-    let one = count-more (λ s. beats s.at c.args.at) xs c.loop-i.i _ c.beats.result (search rules) c.beats.ensures in
-    le-false _ _ (omega (arith, one, ap bit c.if-beats.true, c.loop-i.invariant, count-front (λ s. beats s.at c.args.at) xs (c.loop-i.i + 1) n (omega arith)))
+    let xs = c.deref-station-items.result.now in
+    let one = count-more (λ s. beats s.at c.args.at) xs c.loop-station.station-index _ c.beats.result (search rules) c.beats.ensures in
+    rw (← c.deref-station-items.ensures.0) (le-false _ _ (omega (arith, one, ap bit c.if-beats.true, c.loop-station.invariant, count-front (λ s. beats s.at c.args.at) xs (c.loop-station.station-index + 1))))
 
-pub loop-i-preserved : goal.loop-i-preserved
-loop-i-preserved c =
-    let one = count-more (λ s. beats s.at c.args.at) c.args.self.now.stations c.loop-i.i _ c.beats.result (search rules) c.beats.ensures in
-    elim c.if-beats.branch [ then-beats+else-left-le1 w ↦ omega (arith, w.left-is, ap bit w.if-beats.true, one, c.loop-i.invariant) | else-beats w ↦ omega (arith, w.left-is, ap bit w.if-beats.false, one, c.loop-i.invariant) ]
+pub loop-station-preserved : goal.loop-station-preserved
+loop-station-preserved c =
+    let one = count-more (λ s. beats s.at c.args.at) c.deref-station-items.result.now c.loop-station.station-index _ c.beats.result (search rules) c.beats.ensures in
+    elim c.if-beats.branch [ then-beats+else-left-le1 w ↦ omega (arith, w.left-is, ap bit w.if-beats.true, one, c.loop-station.invariant) | else-beats w ↦ omega (arith, w.left-is, ap bit w.if-beats.false, one, c.loop-station.invariant) ]

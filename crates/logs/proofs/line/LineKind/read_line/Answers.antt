@@ -1,0 +1,33 @@
+use Rattle.std.proofs.Common.{◌≡◌, length, sym, ap, ◌∙◌, Some, arith}
+use Rattle.std.proofs.lemmas.Result.{err_from_is_err_and}
+use Rattle.stations.specs.declared.fault.Code.TheVariants.{OutOfRange}
+use Rattle.logs.specs.Pieces.{fields_of}
+use Rattle.logs.specs.Fields.{admits}
+use Rattle.logs.specs.Checks.{field_fault}
+use Rattle.logs.proofs.Heads.{first_found}
+use Rattle.logs.proofs.Verdicts.{verdict-err, refused_count, refused_spelling, refused_range}
+use Rattle.logs.proofs.line.LineKind.read_line.Goals as goal
+
+pub returns-then-field_count : goal.returns-then-field_count
+returns-then-field_count g c =
+    let bytes = c.in-Some.line.value.now in
+    let kinds = c.args.self.now.fields in
+    first_found c.args.number kinds c.in-Some.ensures ∙ refused_count c.args.number kinds bytes (λ e. absurd (omega (arith, c.field_count.ensures, c.if-field_count.true))) ∙ ap Some (sym c.at-then-field_count.ensures)
+
+pub returns-in_err-numbers : goal.returns-in_err-numbers
+returns-in_err-numbers g c =
+    let p = err_from_is_err_and c.from_residual.result c.from_residual.ensures.1 in
+    let bytes = c.in-Some.line.value.now in
+    let kinds = c.args.self.now.fields in
+    let count : length (fields_of bytes) ≡ length kinds = omega (arith, c.field_count.ensures) in
+    rw (p.1, p.2) (first_found c.args.number kinds c.in-Some.ensures ∙ refused_spelling c.args.number kinds bytes _ count c.in_err-numbers.ensures)
+
+pub returns-in_err-check_ranges : goal.returns-in_err-check_ranges
+returns-in_err-check_ranges g c =
+    let p = err_from_is_err_and c.from_residual-in_err-check_ranges.result c.from_residual-in_err-check_ranges.ensures.1 in
+    let bytes = c.in-Some.line.value.now in
+    let kinds = c.args.self.now.fields in
+    let count : length (fields_of bytes) ≡ length kinds = omega (arith, c.field_count.ensures) in
+    let read = c.in_ok-numbers.ensures in
+    rw (p.1, p.2) (first_found c.args.number kinds c.in-Some.ensures
+    ∙ refused_range c.args.number kinds bytes _ count read.0 (ap (field_fault admits OutOfRange c.args.number 1 kinds) (sym read.1) ∙ verdict-err _ _ c.in_err-check_ranges.ensures))
