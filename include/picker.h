@@ -2,7 +2,8 @@
  *
  * Link crates/panel/out/libpanel.a, which `rt lib` makes in crates/panel. Nothing is kept between calls, nothing is allocated,
  * and a call may run on any thread. Leave it 512 KB of stack:
- * picker_pick and picker_ask take less than 240 KB, the others less than 80 KB (measured, not proved).
+ * picker_pick and picker_ask take less than 240 KB, picker_bind less than 160 KB, the others less than 80 KB (measured, not
+ * proved).
  *
  * A slice is a pointer and then its length in bytes. The pointer is not NULL, also where the length is 0, and the bytes are
  * the caller's: inputs are only read, and no output may overlap another slice of the call.

@@ -16,8 +16,13 @@ pub enum Entry {
     Station(Station),
 }
 
-// What stands where no entry has been put; nobody reads it.
+// What stands where no entry has been put, some station; nobody reads it. By hand, since a derive takes a variant without
+// fields.
 impl Default for Entry {
+    ghost use Rattle.books.specs.Fillers.{IsStation};
+
+    ghost is_default = { IsStation };
+
     fn default() -> Entry {
         Entry::Station(Station::default())
     }

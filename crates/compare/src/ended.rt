@@ -16,7 +16,7 @@ pub(crate) struct Ended {
 }
 
 impl Ended {
-    // Starts the question and calls next until it says done or refuses.
+    // Starts the question and calls next until it says done or refuses: by hand, so that each answer is seen.
     pub(crate) fn of<S: PageSource + Drop>(
         heap: Global,
         source: S,

@@ -6,10 +6,7 @@ use rolls::Roll;
 use sources::{Page, PageSource};
 use stations::{Measures, Station};
 use std::alloc::Global;
-use stored::Stored;
-
-// The bytes of a page.
-const PAGE: usize = 256;
+use stored::{DEAD, PAGE, Stored};
 
 pub(crate) fn roll_of(row: &[Station]) -> anyhow::Result<Roll<'_>> {
     let mut roll = Roll::new();
@@ -27,6 +24,7 @@ pub(crate) fn book_in(bytes: &[u8]) -> anyhow::Result<Stored<'_>> {
     Ok(book)
 }
 
+// Written apart from the writer, so that books come from two hands.
 fn put_measures(bytes: &mut Vec<u8>, at: Measures) -> anyhow::Result<()> {
     for m in [at.m1, at.m2, at.m3, at.m4] {
         bytes.extend_from_slice(&m.to_be_bytes())?;
@@ -74,7 +72,7 @@ pub(crate) fn stored_bytes(
     }
     for _ in 0..deaths {
         if let Some(level) = bytes.get_mut(dice.below(pages) as usize * PAGE) {
-            *level = 255;
+            *level = DEAD;
         }
     }
     Ok(bytes)

@@ -12,7 +12,7 @@ pub(crate) struct Seen {
     children: Vec<Child>,
 }
 
-// How a question is asked.
+// How a question is asked: as `waiting::Query`, but copied.
 #[derive(Clone, Copy)]
 pub(crate) struct Asked {
     pub(crate) ranking: Ranker,
@@ -40,7 +40,7 @@ impl Seen {
     // The key of a page that is called for: its corner is beaten by fewer than k stations in play.
     fn called_key(&self, asked: Asked, child: &Child) -> Option<Key> {
         let Asked { ranking, question } = asked;
-        // The box's low clipped to the region, unless the box misses it.
+        // The box's low clipped to the region, unless the box misses it: told here apart from the search, to compare with.
         let at = child.bounds.low.max(question.region.low);
         if !at.at_most(child.bounds.high) || !at.at_most(question.region.high) {
             return None;

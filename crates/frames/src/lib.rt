@@ -9,7 +9,8 @@ mod frames;
 
 pub use frames::Frames;
 
-// The number that the digits spell, behind those that spell `n`. None where another byte stands among them, or the number is too large.
+// The number that the digits spell. None where another byte stands among them, or the number is too large. As a loop: it ends
+// at the first such byte.
 fn length_in(digits: &[u8]) -> Option<usize>
     ensures { result ≡ length_from 0 digits.now }
 {

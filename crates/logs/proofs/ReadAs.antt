@@ -1,6 +1,5 @@
 -- What an accepted text is read as.
-use Rattle.std.proofs.Common.{◌≡◌, ℕ, ◌-◌, ltb, List, length, take, None, sym, ap, ◌∙◌, arith}
-use native.Mathlib.Nat.{sub-zero}
+use Rattle.std.proofs.Common.{◌≡◌, ℕ, ltb, List, length, take, None, ap, ◌∙◌, arith}
 use Rattle.std.proofs.lemmas.Bool.{le-ltb}
 use Rattle.stations.specs.declared.fault.Code.TheVariants.{TooManyStations}
 use Rattle.stations.specs.Faults.{placeless, refuse_if}

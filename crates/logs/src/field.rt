@@ -28,12 +28,13 @@ pub(crate) const SUM_LETTER: u8 = b'S';
 
 const LARGEST_LETTER: u8 = b'W';
 
-// The digit that the byte is, or a number above 9 where it is none: one test tells.
-fn digit_of(b: u8) -> u32
-    ensures digit { result ≤ 9 → (48 ≤ b) × (b ≤ 57) × (result ≡ b - 48) }
-    ensures other { 9 < result → is_ascii_digit b ≡ false }
+// The digit that the byte is, if it is one: a single test tells. Inline, since the walk of a line is hot.
+#[inline(always)]
+fn digit_of(b: u8) -> Option<u32>
+    ensures { MatchOption result (is_ascii_digit b ≡ false) (λ digit. (48 ≤ b) × (b ≤ 57) × (digit ≡ b - 48)) }
 {
-    (b as u32).wrapping_sub(48)
+    let digit = (b as u32).wrapping_sub(48);
+    if digit <= 9 { Some(digit) } else { None }
 }
 
 // Digits, as a number, and how many they are.
@@ -52,10 +53,9 @@ fn read_digits(text: &[u8]) -> Digits
     let most = MOST_DIGITS.min(text.len());
     let mut number = 0;
     for (i, b) in text[..most].iter().enumerate() {
-        let digit = digit_of(*b);
-        if digit > 9 {
+        let Some(digit) = digit_of(*b) else {
             return Digits { number, len: i };
-        }
+        };
         number = 10 * number + digit as u64;
     }
     Digits { number, len: most }

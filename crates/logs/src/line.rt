@@ -78,6 +78,7 @@ fn behind_comma(rest: &[u8]) -> &[u8]
     }
 }
 
+// A line goes by its number in refusals alone, so the number is handed on beside the text and is no part of a line.
 impl<const N: usize> LineKind<N> {
     // Why the field at a place, from 0, is refused. In a refusal fields are counted from 1.
     fn field_fault(&self, code: Code, line: u32, place: usize) -> Fault
@@ -95,6 +96,7 @@ impl<const N: usize> LineKind<N> {
     {
         let mut numbers = [0; N];
         let mut rest = line;
+        // By place, not zipped with `iter_mut`: a proof does not know what such a walk leaves in the numbers.
         for (place, kind) in self.fields.iter().enumerate() {
             let Some(field) = kind.read(rest) else {
                 return Err(self.field_fault(Code::BadField, number, place));
@@ -127,6 +129,7 @@ impl<const N: usize> LineKind<N> {
         let (last, others) = self.fields.split_last()?;
         let mut numbers = [0; N];
         let mut rest = text;
+        // By place, as in `read_fields`.
         for (place, kind) in others.iter().enumerate() {
             let field = kind.take(rest, b',')?;
             numbers[place] = field.value;
@@ -140,8 +143,8 @@ impl<const N: usize> LineKind<N> {
         })
     }
 
-    // Looks for the first fault in checking order: how many fields, then how each is written, then what each says. Out of
-    // line, so that it costs the walk no registers.
+    // Looks for the first fault in checking order: how many fields, then how each is written, then what each says. Never
+    // inlined, so that it costs the walk no registers.
     #[cold]
     #[inline(never)]
     fn read_line<'a>(&self, number: u32, text: &'a [u8]) -> Result<Parsed<'a, [u64; N]>, Fault>

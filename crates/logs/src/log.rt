@@ -23,13 +23,6 @@ pub struct Log {
     pub count: usize,
 }
 
-// What the question's line says.
-#[derive(Clone, Copy)]
-struct Heading {
-    ranking: Ranker,
-    question: Question,
-}
-
 // The longest text.
 pub const MOST_BYTES: usize = 65_536;
 
@@ -89,17 +82,18 @@ fn ranking_of(numbers: &[u64; 14]) -> Ranker
     }
 }
 
-// Reads the question's line.
-fn read_question(text: &[u8]) -> Result<Parsed<'_, Heading>, Fault>
+// Reads the question's line: the log as it is before its stations are read.
+fn read_question(text: &[u8]) -> Result<Parsed<'_, Log>, Fault>
     ensures { MatchResult result (λ h. Headed text.now h.value.ranking h.value.question h.rest.now) (λ f. lines_fault (lines_of text.now) ≡ Some f) }
 {
     let line = QUESTION_LINE.take_line(1, text)?;
-    let heading = Heading {
+    let log = Log {
         ranking: ranking_of(&line.value),
         question: question_of(&line.value),
+        count: 0,
     };
     Ok(Parsed {
-        value: heading,
+        value: log,
         rest: line.rest,
     })
 }
@@ -134,16 +128,12 @@ pub fn read_log(text: &[u8], row: &mut [Station]) -> Result<Log, Fault>
     let mut read = ArrayVec::new();
     read_stations(heading.rest, &mut read)?;
     check_row(&read)?;
-    let Heading { ranking, question } = heading.value;
-    question.check()?;
+    let log = heading.value;
+    log.question.check()?;
     let count = read.len();
     if count > row.len() {
         return Err(Code::ShortBuffer.into());
     }
     row[..count].copy_from_slice(&read);
-    Ok(Log {
-        ranking,
-        question,
-        count,
-    })
+    Ok(Log { count, ..log })
 }

@@ -9,14 +9,11 @@ use binding::bind_log;
 use logs::read_log;
 use picking::{ask, pick};
 use stations::{Fault, MOST_STATIONS, Station};
-use stored::Stored;
+use stored::{PAGE, Stored};
 
 mod reply;
 
 pub use reply::Reply;
-
-// The bytes of a page of a stored book.
-const PAGE: usize = 256;
 
 // How many stations a log has, or why it is refused.
 fn count_stations(log: &[u8]) -> Result<usize, Fault>

@@ -1,33 +1,22 @@
 #![tactic(auto)]
 // What the picker prints: a question asked of a book and driven to its end.
-ghost use Rattle.std.specs.Prelude.{◌≡◌, Some, None};
+ghost use Rattle.std.specs.Prelude.{◌≡◌, None};
 ghost use Rattle.rankings.specs.Scores.{ranker_score};
 ghost use Rattle.stations.specs.Rows.{most_stations};
 ghost use Rattle.rolls.specs.Rolls.{roll_book};
 ghost use Rattle.stored.specs.Loading.{load_fault, spelled_book};
 ghost use Rattle.logs.specs.Checks.{log_fault, score_in, question_in, row_in};
-ghost use Rattle.printing.specs.Printed.{refusal, closing_line, closed_listing, Prints};
+ghost use Rattle.printing.specs.Printed.{closing_line, closed_listing, Prints};
 ghost use Rattle.picking.specs.Picks.{fault_in, closing_at, search_fault, search_lines, pick_fault, pick_lines, ask_fault, ask_lines, KeepsPromises, PicksAnswer};
 
 use logs::read_log;
-use printing::{Closing, Report, print_listing, print_refusal};
+use printing::{Closing, Report, print_listing, report_refusal};
 use rankings::Ranker;
 use rolls::Roll;
 use search::Run;
 use sources::PageSource;
 use stations::{Fault, MOST_STATIONS, Question, Station};
 use stored::Stored;
-
-// Prints a refusal alone.
-fn refuse(fault: Fault, print: &mut [u8]) -> Result<Report, Fault>
-    ensures { Prints (Some fault) (refusal fault) print.old print.new result }
-{
-    let len = print_refusal(fault, print)?;
-    Ok(Report {
-        len,
-        refusal: Some(fault),
-    })
-}
 
 // Prints the stations and how the search for them ended.
 fn print_end(
@@ -57,7 +46,7 @@ pub fn print_search<S: PageSource + Drop>(
 {
     let mut run = Run::new(source, ranking);
     if let Err(fault) = run.start(question) {
-        return refuse(fault, print);
+        return report_refusal(fault, print);
     }
     let end = run.drive();
     let (pages, _) = run.tally();
@@ -74,7 +63,7 @@ pub fn pick(text: &[u8], print: &mut [u8]) -> Result<Report, Fault>
     let mut row = [Station::default(); MOST_STATIONS];
     let log = match read_log(text, &mut row) {
         Ok(log) => log,
-        Err(fault) => return refuse(fault, print),
+        Err(fault) => return report_refusal(fault, print),
     };
     let mut roll = Roll::new();
     roll.load(&row[..log.count])?;
@@ -88,11 +77,11 @@ pub fn ask(book: &[u8], text: &[u8], print: &mut [u8]) -> Result<Report, Fault>
 {
     let log = match read_log(text, &mut []) {
         Ok(log) => log,
-        Err(fault) => return refuse(fault, print),
+        Err(fault) => return report_refusal(fault, print),
     };
     let mut stored = Stored::new();
     if let Err(fault) = stored.load(book) {
-        return refuse(fault, print);
+        return report_refusal(fault, print);
     }
     print_search(stored, log.ranking, log.question, print)
 }

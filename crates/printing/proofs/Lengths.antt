@@ -1,5 +1,5 @@
 -- How long what is printed is.
-use Rattle.std.proofs.Common.{◌≡◌, ℕ, suc, ◌+◌, ◌*◌, ◌/◌, ◌%◌, ◌^◌, ◌<◌, ◌≤◌, List, [], ◌∷◌, length, get_or, decimal, refl, sym, ap, ◌∙◌, arith, rules, Fits, w64}
+use Rattle.std.proofs.Common.{◌≡◌, ℕ, zero, suc, ◌+◌, ◌*◌, ◌/◌, ◌%◌, ◌^◌, ◌<◌, ◌≤◌, List, [], ◌∷◌, length, get_or, decimal, refl, sym, ap, ◌∙◌, arith, rules, Fits, w64}
 use Rattle.std.specs.List.{sum_by}
 use Rattle.std.proofs.lemmas.Fmt.{decimal_step, decimal_digit, length-decimal-le}
 use Rattle.std.proofs.lemmas.List.Sums.{sum_by-cons}
@@ -29,3 +29,12 @@ numbered-few (n ∷ ns) small =
     let first : n < 2 ^ 64 = search rules in
     let e = length-append (decimal n) (ender ns ∷ numbered ns) in
     omega (arith, digits-few n first, numbered-few ns (λ i. small (suc i)), e)
+
+-- a number has one digit more than its logarithm says
+pub digits_counted : (k n : ℕ) → n < 2 ^ 64 → 10 ^ k ≤ n → n < 10 * 10 ^ k → length (decimal n) ≡ k + 1
+digits_counted zero n small low high = sym (one_digit n (omega arith))
+digits_counted (suc k) n small low high =
+    let some : 1 ≤ 10 ^ k = search (rules, arith) in
+    let more = digits_counted k (n / 10) (omega arith) (omega arith) (omega arith) in
+    let step = digit_more n (omega arith) small in
+    omega (arith, more, step)

@@ -1,6 +1,6 @@
 -- Bytes written from back to front.
-use Rattle.std.proofs.Common.{◌≡◌, ℕ, ◌+◌, ◌<◌, ◌≤◌, List, [], ◌∷◌, ◌++◌, length, get_or, drop, decimal, sym, refl, ap, ◌∙◌, subst, append-nil, append_assoc, arith}
-use Rattle.std.proofs.lemmas.List.{length-append, at_drop_more}
+use Rattle.std.proofs.Common.{◌≡◌, ℕ, ◌+◌, ◌<◌, ◌≤◌, List, [], ◌∷◌, ◌++◌, length, get_or, take, drop, decimal, sym, refl, ap, ◌∙◌, subst, append-nil, append_assoc, arith}
+use Rattle.std.proofs.lemmas.List.{length-append, at_drop_more, take-take}
 use Rattle.stations.specs.declared.measures.Measures.{Measures}
 use Rattle.stations.specs.declared.station.Station.{Station}
 use Rattle.stations.proofs.Rows.{nowhere}
@@ -9,7 +9,9 @@ use Rattle.printing.specs.Printed.{ender, numbered, station_numbers, closed_list
 -- more bytes in front of those that are written
 pub wrote_more : {end : ℕ} {was bytes : List ℕ} {at : ℕ} {mid more : List ℕ} {start : ℕ} {is : List ℕ} → Wrote end was bytes at mid → Wrote at mid more start is → Wrote end was (more ++ bytes) start is
 wrote_more {end} {was} {bytes} {at} {mid} {more} {start} {is} p q =
+    let below : start ≤ at = omega (arith, q.ends) in
     record {
+      before = q.before ∙ sym (take-take start at mid below) ∙ ap (take start) p.before ∙ take-take start at was below;
       ends = omega (arith, p.ends, q.ends, length-append more bytes);
       behind = q.behind ∙ ap (λ xs. more ++ xs) p.behind ∙ sym (append_assoc more bytes (drop end was));
     }
@@ -22,7 +24,7 @@ pub record Part (end : ℕ) (was numbers rest : List ℕ) (next start : ℕ) (is
   pub wrote : Wrote end was (numbered done) start is
 
 pub part_none : (end : ℕ) (was numbers rest : List ℕ) → rest ≡ numbers → Part end was numbers rest 10 end was
-part_none end was numbers rest e = record { done = []; split = sym (append-nil rest ∙ e); ender_is = refl; wrote = record { ends = omega arith; behind = refl } }
+part_none end was numbers rest e = record { done = []; split = sym (append-nil rest ∙ e); ender_is = refl; wrote = record { ends = omega arith; behind = refl; before = refl } }
 
 -- the numbers that are written take no more room than all of them
 numbered-longer : (xs ys : List ℕ) → length (numbered ys) ≤ length (numbered (xs ++ ys))

@@ -47,10 +47,11 @@ closed_listing rank last (s ∷ ss) = numbered (station_numbers (rank s.at) s) +
 abbrev pub listing : (Measures → ℕ) → List Station → List ℕ
 listing rank ss = closed_listing rank (closing_line Complete) ss
 
--- bytes written in front of the first place: they begin at the second, and behind them all is as it was
+-- bytes written in front of the first place: they begin at the second, and nothing else changed
 pub record Wrote (end : ℕ) (was bytes : List ℕ) (start : ℕ) (is : List ℕ) : Type 0 where
   pub ends : start + length bytes ≡ end
   pub behind : drop start is ≡ bytes ++ drop end was
+  pub before : take start is ≡ take start was
 
 -- the first bytes of the buffer are these and the others are as they were; or the buffer was too short, and is as it was
 abbrev pub Printed : List ℕ → List ℕ → List ℕ → Result ℕ Fault → Type 0

@@ -1,7 +1,7 @@
 #![tactic(auto)]
 // The printed form of an answer, and of a refusal, into a lent buffer.
-ghost use Rattle.std.specs.Prelude.{◌≡◌, ◌+◌, ◌<◌, ◌≤◌, ◌++◌, length, decimal, MatchOption};
-ghost use Rattle.printing.specs.Printed.{numbered, station_numbers, fault_numbers, closing_line, listing, closed_listing, refusal, Wrote, Printed};
+ghost use Rattle.std.specs.Prelude.{◌≡◌, ◌+◌, ◌<◌, ◌≤◌, ◌++◌, length, decimal, MatchOption, Some};
+ghost use Rattle.printing.specs.Printed.{numbered, station_numbers, fault_numbers, closing_line, listing, closed_listing, refusal, Wrote, Printed, Prints};
 
 use itoa::write_digits;
 use rankings::Ranking;
@@ -13,12 +13,15 @@ mod report;
 pub use closing::Closing;
 pub use report::Report;
 
-// How many digits a number has. The kit's `itoa` writes digits, and does not count them.
+// How many digits a number has.
 fn decimal_len(n: u64) -> usize
     ensures value { result ≡ length (decimal n) }
     ensures bound { result ≤ 20 }
 {
-    if n < 10 { 1 } else { decimal_len(n / 10) + 1 }
+    match n.checked_ilog10() {
+        Some(log) => log as usize + 1,
+        None => 1,
+    }
 }
 
 // How long the line of a word and of numbers, parted by commas, is.
@@ -41,6 +44,7 @@ struct Printer<'a> {
     ghost within: { start ≤ length out.now },
 }
 
+// That the buffer stays the one that was lent (`same`) is told anew by each method: a field cannot speak of what was lent.
 impl<'a> Printer<'a> {
     // Puts bytes in front.
     fn put(&mut self, bytes: &[u8])
@@ -163,6 +167,7 @@ pub fn print_listing<R: Ranking>(
 }
 
 // Prints a refusal's code and its two places.
+// Not printed as a listing of no station, which would need a made-up ranking: so the length is tested here again.
 pub fn print_refusal(fault: Fault, out: &mut [u8]) -> Result<usize, Fault>
     ensures { Printed (refusal fault) out.old out.new result }
 {
@@ -174,4 +179,15 @@ pub fn print_refusal(fault: Fault, out: &mut [u8]) -> Result<usize, Fault>
     let mut printer = Printer { out, start: len };
     printer.put_closing(closing);
     Ok(len)
+}
+
+// Prints a refusal alone, and reports it.
+pub fn report_refusal(fault: Fault, out: &mut [u8]) -> Result<Report, Fault>
+    ensures { Prints (Some fault) (refusal fault) out.old out.new result }
+{
+    let len = print_refusal(fault, out)?;
+    Ok(Report {
+        len,
+        refusal: Some(fault),
+    })
 }

@@ -6,7 +6,7 @@ ghost use Rattle.printing.specs.Printed.{Printed};
 ghost use Rattle.reports.specs.Reports.{answer_lines, report_lines, length_in, Reported};
 
 use logs::{Log, read_log};
-use printing::{Closing, Report, print_listing, print_refusal};
+use printing::{Closing, Report, print_listing, report_refusal};
 use scans::scan;
 use stations::{Fault, MOST_STATIONS, Station};
 
@@ -33,9 +33,6 @@ pub fn report(text: &[u8], print: &mut [u8]) -> Result<Report, Fault>
             len: print_answer(&row[..log.count], &log, print)?,
             refusal: None,
         }),
-        Err(fault) => Ok(Report {
-            len: print_refusal(fault, print)?,
-            refusal: Some(fault),
-        }),
+        Err(fault) => report_refusal(fault, print),
     }
 }

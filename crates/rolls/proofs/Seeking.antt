@@ -1,32 +1,19 @@
 -- Looking for a page, from the top level down.
-use Rattle.std.proofs.Common.{◌≡◌, ℕ, zero, suc, ◌+◌, ◌-◌, ◌<◌, ◌≤◌, List, length, get_or, sym, ap, ◌∙◌, subst, zero-add, arith}
-use native.Mathlib.Nat.{sub-zero}
+use Rattle.std.proofs.Common.{ℕ, zero, suc, ◌+◌, ◌-◌, ◌<◌, ◌≤◌, List, length, get_or, ap, ◌∙◌, subst, arith}
 use Rattle.stations.specs.declared.station.Station.{Station}
 use Rattle.books.specs.Books.{dead}
-use Rattle.rolls.specs.Rolls.{pages_of, top_level, pages_to, page_count, pages_from, roll_book}
+use Rattle.rolls.specs.Rolls.{pages_of, pages_to, pages_from}
 use Rattle.rolls.specs.Places.{StandsAt, Among, Sought}
 use Rattle.rolls.proofs.Pages.{first-at, later-at}
-use Rattle.rolls.proofs.Counts.{count-few}
 
 level-among : (n l : ℕ) → pages_of n l ≤ pages_to n l
 level-among n zero = omega arith
 level-among n (suc l) = omega arith
 
 module _ (row : List Station) (page : ℕ) where
-  pub at_the_top : (n : ℕ) → n ≡ top_level (length row) → Sought row page (n + 1) 0
-  at_the_top n e =
-      subst (λ m. Sought row page m 0) {x = suc (top_level (length row))} (omega arith) (record { low = omega arith; from = omega arith; left = zero-add (page_count (length row)); holds = ap (λ p. get_or (roll_book row) p dead) (sym (sub-zero page)) })
-
   pub among : (n first : ℕ) → 0 < n → Sought row page n first → Among row page (n - 1) first
   among zero first h s = absurd (omega arith)
   among (suc l) first h s = subst (λ m. Among row page m first) {x = l} (omega arith) s
-
-  pub none_left : (n first : ℕ) → n ≤ 0 → Sought row page n first → page_count (length row) ≤ page
-  none_left zero first h s = s
-  none_left (suc l) first h s = absurd (omega arith)
-
-  pub not_far : (l first : ℕ) → length row ≤ 1152 → Among row page l first → first + pages_of (length row) l ≤ 105
-  not_far l first few s = omega (arith, s.left, level-among (length row) l, count-few (length row) few)
 
   pub below_that : (l first : ℕ) → Among row page l first → first + pages_of (length row) l ≤ page → Sought row page l (first + pages_of (length row) l)
   below_that zero first s h = omega (arith, s.left)

@@ -39,9 +39,5 @@ pub(crate) fn page_count(len: usize) -> usize
     requires { len ≤ most_stations }
     ensures { result ≡ page_count len }
 {
-    let mut pages = 0;
-    for level in 0..=top_level(len) {
-        pages += pages_of(len, level);
-    }
-    pages
+    (0..=top_level(len)).map(|level| pages_of(len, level)).sum()
 }

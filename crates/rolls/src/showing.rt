@@ -23,7 +23,8 @@ impl<'a> Place<'a> {
         }
     }
 
-    // A page of stations.
+    // A page of stations. Its loop and that of the other kind of page differ in what they put; a third function over a closure
+    // would be longer than both. Entries are pushed one by one, since `extend` gives back an error that cannot come here.
     fn leaf(&self) -> Page
         requires { self.now.level ≡ 0 }
         ensures { Shows (page_at self.now.row.now 0 0 self.now.index) result }
@@ -37,7 +38,7 @@ impl<'a> Place<'a> {
         Page { level: 0, entries }
     }
 
-    // A page that names pages of the level below. They are made here one by one, and stand nowhere to be gone over.
+    // A page that names pages of the level below. Level 0 has none, so this function and the two below ask for a higher level.
     fn node(&self) -> Page
         requires { 0 < self.now.level }
         ensures { Shows (page_at self.now.row.now self.now.level self.now.below self.now.index) result }

@@ -49,7 +49,8 @@ impl<S: PageSource, R: Ranking> Run<S, R> {
         }
     }
 
-    // Drops what was opened, what waits and what is listed.
+    // Drops what was opened, what waits and what is listed. That source and ranking stay is said by each call that reads no
+    // page: a field of a run cannot say what a call leaves.
     fn clear(&mut self, phase: Phase)
         ensures source { self.new.source ≡ self.old.source }
         ensures ranking { self.new.query.ranking ≡ self.old.query.ranking }

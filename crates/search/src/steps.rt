@@ -31,7 +31,7 @@ impl<S: PageSource, R: Ranking> Run<S, R> {
         filled.map_err(|_| Code::WaitingFull.at(page, 0))
     }
 
-    // One turn: takes the least of what waits. It breaks with what `next` is to say, and else the search goes on.
+    // One turn: takes the least of what waits. It breaks with what `next` is to say; otherwise the search goes on.
     fn turn(&mut self) -> Result<ControlFlow<Option<Station>>, Fault>
         ensures kept { Kept S.PageSource self.old self.new }
         ensures phase { self.new.phase ≡ self.old.phase }

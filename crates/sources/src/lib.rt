@@ -12,8 +12,8 @@ pub use page::{MOST_ENTRIES, Page};
 
 // A source means a lawful book, a page count and a meter of the reads that were asked of it.
 pub trait PageSource {
-    // The most pages that this kind of source can hold; `limit` says it to clauses, and `page_limit` to both. (A constant
-    // whose value clauses name gets no proof in an impl with a lifetime.)
+    // The most pages that this kind of source can hold; `limit` says it to clauses, and `page_limit` that the two are one.
+    // Tried without: a constant that clauses name gets no proof in an impl with a lifetime.
     const MOST_PAGES: usize;
 
     ghost limit: { ℕ };

@@ -1,3 +1,6 @@
+ghost use Rattle.std.specs.Prelude.{◌≤◌};
+ghost use Rattle.arrayvec.specs.ArrayVec.{array_vec_len};
+
 use arrayvec::ArrayVec;
 use books::Entry;
 
@@ -9,4 +12,5 @@ pub const MOST_ENTRIES: usize = 12;
 pub struct Page {
     pub level: u8,
     pub entries: ArrayVec<Entry, MOST_ENTRIES>,
+    ghost few: { array_vec_len entries ≤ 12 },
 }

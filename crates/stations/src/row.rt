@@ -8,7 +8,8 @@ use crate::fault::{Code, Fault};
 use crate::marks::Marks;
 use crate::station::Station;
 
-// The most stations that a row may have.
+// The most stations that a row may have. Each contract that needs the bound says it: rows are lent slices, and a type around
+// one would be made anew for every call.
 pub const MOST_STATIONS: usize = 1152;
 
 fn holds_number(row: &[Station], number: u32) -> bool
@@ -30,10 +31,8 @@ fn check_zero(row: &[Station]) -> Result<(), Fault>
     requires { length row.now ≤ most_stations }
     ensures { result ≡ verdict (zero_fault 0 row.now) }
 {
-    for (i, station) in row.iter().enumerate() {
-        if station.number == 0 {
-            return Err(Code::OutOfRange.at(i as u32, 0));
-        }
+    if let Some(i) = row.iter().position(|s| s.number == 0) {
+        return Err(Code::OutOfRange.at(i as u32, 0));
     }
     Ok(())
 }

@@ -121,6 +121,7 @@ impl Place {
     // Checks a live page that counts: its header, its level, its entries in turn, stations at level 0 and named pages above.
     #[tactic(auto, using(crate::proofs::Leveled::entries_decide, crate::proofs::Leveled::live_leaf, crate::proofs::Leveled::live_node))]
     pub(crate) fn check_page(self, seen: &mut Seen, page: &[u8; PAGE]) -> Result<(), Fault>
+        // Room for twelve more numbers is so between pages and not within one, so no field carries it.
         requires { length (listed seen.old.numbers) + 12 ≤ 3072 }
         ensures answer { result ≡ verdict (page_fault self.pages self.page self.naming seen.old.notes (listed seen.old.numbers) page.now) }
         ensures noted { result ≡ Ok tt → seen.new.notes ≡ notes_after seen.old.notes (live page.now) }

@@ -6,7 +6,7 @@ use books::Child;
 use stations::{Measures, Region, Station};
 
 // The bytes of a page.
-pub(crate) const PAGE: usize = 256;
+pub const PAGE: usize = 256;
 
 // The most pages of a book.
 pub(crate) const MOST_PAGES: usize = 256;
@@ -15,12 +15,12 @@ pub(crate) const MOST_PAGES: usize = 256;
 pub(crate) const ENTRIES: usize = 8;
 
 // The bytes of a station, and of a named page.
-pub(crate) const STATION: usize = 12;
+pub const STATION: usize = 12;
 
-pub(crate) const CHILD: usize = 18;
+pub const CHILD: usize = 18;
 
 // The level of a dead page.
-pub(crate) const DEAD: u8 = 255;
+pub const DEAD: u8 = 255;
 
 fn short_at(bytes: &[u8], i: usize) -> u16
     requires { i + 2 ≤ length bytes.now }

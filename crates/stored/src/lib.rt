@@ -13,6 +13,7 @@ mod source;
 mod stored;
 mod walk;
 
+pub use layout::{CHILD, DEAD, PAGE, STATION};
 pub use stored::Stored;
 
 // Laws of the layout, of all bytes.

@@ -14,18 +14,19 @@ pub(crate) fn page_at(page: &[u8; PAGE]) -> Page
     ensures shows { Shows (live page.now) result }
     ensures by_place { result.entries.items ≡ entries_at page.now (count_byte page.now) }
 {
-    let mut shown = Page {
-        level: level(page),
-        entries: ArrayVec::new(),
-    };
-    if shown.level == 0 {
+    let level = level(page);
+    let mut shown = ArrayVec::new();
+    if level == 0 {
         for bytes in entries::<STATION>(page) {
-            shown.entries.push(Entry::Station(station_of(bytes)));
+            shown.push(Entry::Station(station_of(bytes)));
         }
     } else {
         for bytes in entries::<CHILD>(page) {
-            shown.entries.push(Entry::Page(child_of(bytes)));
+            shown.push(Entry::Page(child_of(bytes)));
         }
     }
-    shown
+    Page {
+        level,
+        entries: shown,
+    }
 }

@@ -8,6 +8,7 @@ use crate::layout::MOST_PAGES;
 #[derive(Drop)]
 pub struct Stored<'a> {
     pub(crate) bytes: &'a [u8],
+    // Looked up by page number: a table with a mark for each page that a book could have.
     pub(crate) live: [bool; MOST_PAGES],
     pub(crate) meter: u64,
     ghost some: { 1 ≤ page_count bytes.now },

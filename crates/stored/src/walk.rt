@@ -23,6 +23,7 @@ impl Seen {
     // Checks a page if it counts and is not dead, and says whether it can be read.
     fn visit(&mut self, p: usize, pages: usize, page: &[u8; PAGE]) -> Result<bool, Fault>
         requires place { (p < pages) × (pages ≤ 256) }
+        // Room for twelve more numbers is so between pages and not within one, so no field carries it.
         requires room { length (listed self.old.numbers) + 12 ≤ 3072 }
         ensures answer { result ≡ visited (visit_fault pages p self.old.notes (listed self.old.numbers) page.now) (is_live_at self.old.notes p page.now) }
         ensures noted { is_ok result ≡ true → self.new.notes ≡ notes_after self.old.notes (slot_at self.old.notes p page.now) }
@@ -60,6 +61,7 @@ pub(crate) fn check_pages(bytes: &[u8], live: &mut [bool; MOST_PAGES]) -> Result
 {
     let (pages, _) = bytes.as_chunks::<PAGE>();
     let mut seen = Seen::new();
+    // By place: a proof does not know what a zipped pass leaves in the marks.
     for (p, page) in pages.iter().enumerate() {
         live[p] = seen.visit(p, pages.len(), page)?;
     }

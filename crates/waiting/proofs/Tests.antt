@@ -6,12 +6,15 @@ use Rattle.stations.specs.declared.measures.Measures.{Measures}
 use Rattle.stations.specs.declared.station.Station as stated
 use Rattle.stations.specs.declared.key.Key.{Key}
 use Rattle.stations.specs.declared.key.Kind.TheVariants as kind
+use Rattle.stations.specs.declared.question.Question.{Question}
+use Rattle.stations.specs.Beating.{at_most}
 use Rattle.stations.specs.Counting.{bit, count}
 use Rattle.books.specs.declared.Child.{Child}
 use Rattle.books.specs.declared.Entry.{Entry}
 use Rattle.books.specs.declared.Entry.TheVariants.{Page, Station}
+use Rattle.promises.specs.Bands.{bands}
 use Rattle.promises.specs.Queries.{Query, key_at}
-use Rattle.promises.specs.Waiting.{measures_of, key_of}
+use Rattle.promises.specs.Waiting.{measures_of, counts, key_of}
 use Rattle.promises.proofs.Lists.{count_append}
 
 -- std's count is this one
@@ -35,6 +38,14 @@ count-front t (x ∷ xs) (suc i) = omega (arith, count-front t xs i)
 -- a test that goes on where the first part holds
 pub both-parts : (t s r u : Bool) → t ≡ true → t ≡ s → r ≡ u → r ≡ (s && u)
 both-parts t s r u h e f = rw (sym e, h) f
+
+-- and one that ends where the first part fails
+pub first-part : (t s u : Bool) → t ≡ false → t ≡ s → t ≡ (s && u)
+first-part t s u h e = rw (sym e, h) refl
+
+-- a page counts where its corner is in its box and in the region
+pub page-counts : (rank : Measures → ℕ) (question : Question) (e : Entry) (p : Measures) (c : Child) → p ≡ measures_of (bands rank question) (Page c) → e ≡ Page c → (r : Bool) → r ≡ (at_most p c.bounds.high && at_most p question.region.high) → r ≡ counts (bands rank question) e
+page-counts rank question e p c m h r f = f ∙ ap (λ p. at_most p c.bounds.high && at_most p question.region.high) m ∙ ap (counts (bands rank question)) (sym h)
 
 module _ (q : Query) (e : Entry) (p : Measures) (k : Key) (m : p ≡ measures_of q e) where
   pub key-page : (c : Child) → e ≡ Page c → k ≡ key_at q p kind.Page c.page → k ≡ key_of q e

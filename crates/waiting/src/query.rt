@@ -37,7 +37,7 @@ impl<R> Query<R> {
     {
         match entry {
             Entry::Page(child) => {
-                let corner = child.bounds.low.max(self.question.region.low);
+                let corner = self.measures_of(entry);
                 corner.at_most(child.bounds.high) && corner.at_most(self.question.region.high)
             }
             Entry::Station(station) => self.question.region.holds(station.at),

@@ -3,7 +3,7 @@ ghost use Rattle.arrayvec.specs.ArrayVec.{array_vec_len};
 
 use arrayvec::ArrayVec;
 use books::Entry;
-use stations::{Key, Kind};
+use stations::Key;
 
 // The most entries that may wait.
 pub const MOST_WAITING: usize = 1024;
@@ -13,27 +13,12 @@ pub const MOST_WAITING: usize = 1024;
 pub struct Full;
 
 // An entry that waits. The key decides when it is taken.
-#[derive(Clone, Copy)]
+#[derive(Clone, Copy, Default)]
 #[derive_where(PartialEq, Eq, PartialOrd, Ord)]
 pub struct Waiting {
     pub key: Key,
     #[derive_where(skip)]
     pub entry: Entry,
-}
-
-// What fills a place where nothing waits; nobody reads it.
-impl Default for Waiting {
-    fn default() -> Self {
-        Waiting {
-            key: Key {
-                rank: 0,
-                sum: 0,
-                kind: Kind::Page,
-                number: 0,
-            },
-            entry: Entry::default(),
-        }
-    }
 }
 
 // The entries that wait, in a heap.

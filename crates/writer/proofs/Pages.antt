@@ -1,5 +1,5 @@
 -- The pages of a roll, read and written one after the other.
-use Rattle.std.proofs.Common.{◌≡◌, ℕ, ◌+◌, ◌*◌, ◌<◌, ◌≤◌, List, [], ◌++◌, length, take, None, Ok, Err, MatchBool, Result, sym, ap, ◌∙◌, subst, arith}
+use Rattle.std.proofs.Common.{◌≡◌, ℕ, ◌+◌, ◌*◌, ◌<◌, ◌≤◌, List, [], ◌++◌, length, take, None, Err, MatchBool, Result, sym, ap, ◌∙◌, subst, arith}
 use borrow.Rule.Slice.PartMut.{put_mid}
 use Rattle.std.specs.List.{flat_map}
 use Rattle.std.proofs.lemmas.List.{take_more, flat_map_more}
@@ -8,7 +8,7 @@ use Rattle.std.proofs.lemmas.Bool.{lt-ltb}
 use Rattle.stations.specs.declared.fault.Fault.{Fault}
 use Rattle.stations.specs.declared.fault.Code.TheVariants.{PageNumber}
 use Rattle.stations.specs.declared.station.Station.{Station}
-use Rattle.stations.specs.Faults.{fault, verdict}
+use Rattle.stations.specs.Faults.{fault}
 use Rattle.stations.specs.Rows.{row_fault}
 use Rattle.books.specs.Books.{Slot, dead, leaf, node, Book, slot, level, IsLive}
 use Rattle.sources.specs.declared.page.Page.{Page}
@@ -16,15 +16,11 @@ use Rattle.sources.specs.Sources.{Shows, Seen, Gives, Reads}
 use Rattle.rolls.specs.declared.roll.Roll.{Roll}
 use Rattle.rolls.specs.Rolls.{roll_book}
 use Rattle.rolls.specs.Source.{row_in, book_of, taken}
-use Rattle.rolls.proofs.Accepting.{passed}
 use Rattle.writer.specs.Bytes.{page_with, slot_bytes, book_bytes}
 
 -- a roll that took a row reads it
 pub loaded : (roll : Roll) (row former : List Station) → row_fault row ≡ None → row_in roll ≡ taken (row_fault row) row former → book_of roll ≡ roll_book row
 loaded roll row former fine e = ap roll_book (e ∙ ap (λ o. taken o row former) fine)
-
-pub accepted-row : (row : List Station) (r : Result (Unit {0}) Fault) → r ≡ verdict (row_fault row) → r ≡ Ok tt → row_fault row ≡ None
-accepted-row row r e ok = passed (row_fault row) (sym e ∙ ok)
 
 -- a live page comes, and is shown
 seen : (p : ℕ) (s : Slot) (r : Result Page Fault) → IsLive s → Gives p s r → Seen s r

@@ -1,15 +1,9 @@
 -- Bytes put one after the other.
-use Rattle.std.proofs.Common.{◌≡◌, ℕ, ◌+◌, ◌<◌, ◌≤◌, List, [], ◌∷◌, ◌++◌, length, get_or, take, drop, replicate, sym, ap, ◌∙◌, arith}
+use Rattle.std.proofs.Common.{◌≡◌, ℕ, ◌+◌, ◌<◌, ◌≤◌, List, [], ◌∷◌, ◌++◌, length, get_or, take, drop, replicate, sym, ap, ◌∙◌}
 use Rattle.std.specs.List.{flat_map}
 use Rattle.std.proofs.lemmas.List.{take_more, flat_map_more, drop-replicate}
 use Rattle.books.specs.declared.Entry.{Entry}
-use Rattle.books.specs.declared.Entry.TheVariants as entries
 use Rattle.writer.specs.Bytes.{entry_bytes, filled}
-
--- an entry takes at most 18 bytes
-pub entry-short : (e : Entry) → length (entry_bytes e) ≤ 18
-entry-short (entries.Page c) = omega arith
-entry-short (entries.Station s) = omega arith
 
 -- one more entry
 pub one_more : (es : List Entry) (i : ℕ) (e : Entry) → i < length es → e ≡ get_or es i e → flat_map entry_bytes (take (i + 1) es) ≡ flat_map entry_bytes (take i es) ++ entry_bytes e

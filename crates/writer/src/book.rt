@@ -5,12 +5,13 @@ ghost use Rattle.rolls.specs.Rolls.{roll_book};
 ghost use Rattle.writer.specs.Bytes.{book_bytes};
 ghost use Rattle.writer.specs.Writing.{Writes};
 
-use crate::bytes::{PAGE, encode};
+use crate::bytes::encode;
 use crate::keys::CodeKey;
 use crate::order::sort_by_code;
 use rolls::Roll;
 use sources::PageSource;
 use stations::{Code, Fault, Station};
+use stored::PAGE;
 
 // How many pages the row's roll has, or why the row is refused.
 fn count_pages(row: &[Station]) -> Result<usize, Fault>
@@ -40,6 +41,7 @@ fn write_pages(row: &[Station], book: &mut [u8]) -> Result<(), Fault>
 }
 
 // Writes the book of the row in code order, and answers how many bytes it has. The bytes that no entry takes are 0.
+// The caller lends both buffers: the one to work in, and the one for the book.
 pub fn write_book(row: &[Station], work: &mut [CodeKey], book: &mut [u8]) -> Result<usize, Fault>
     ensures { Writes row.now work.old work.new book.old book.new result }
 {

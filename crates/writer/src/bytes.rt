@@ -7,9 +7,7 @@ use arrayvec::ArrayVec;
 use books::{Child, Entry};
 use sources::Page;
 use stations::{Measures, Station};
-
-// The bytes of a page.
-pub(crate) const PAGE: usize = 256;
+use stored::{CHILD, PAGE, STATION};
 
 fn measures_bytes(at: Measures) -> [u8; 8]
     ensures { result ≡ measures_bytes «at» }
@@ -21,21 +19,21 @@ fn measures_bytes(at: Measures) -> [u8; 8]
     [a, b, c, d, e, f, g, h]
 }
 
-fn station_bytes(station: Station) -> [u8; 12]
+fn station_bytes(station: Station) -> [u8; STATION]
     ensures { result ≡ station_bytes station }
 {
-    let mut bytes = [0; 12];
+    let mut bytes = [0; STATION];
     bytes[..4].copy_from_slice(&station.number.to_be_bytes());
     bytes[4..].copy_from_slice(&measures_bytes(station.at));
     bytes
 }
 
 // The number of a named page goes into two bytes: a book has at most 256 pages.
-fn child_bytes(child: Child) -> [u8; 18]
+fn child_bytes(child: Child) -> [u8; CHILD]
     ensures { result ≡ child_bytes child }
 {
     let page = (child.page % 65536) as u16;
-    let mut bytes = [0; 18];
+    let mut bytes = [0; CHILD];
     bytes[..2].copy_from_slice(&page.to_be_bytes());
     bytes[2..10].copy_from_slice(&measures_bytes(child.bounds.low));
     bytes[10..].copy_from_slice(&measures_bytes(child.bounds.high));

@@ -26,7 +26,7 @@ returns-in-Err c =
     let k = refused_asking bytes text c.in-Err.fault (at_some (log_fault 0 text) (load_fault bytes) c.in-Err.fault c.in-Err.ensures.refused) in
     record {
       promised = ask_promises bytes text;
-      prints = prints_as _ _ _ _ c.args.print.now c.refuse.new.print c.refuse.result k.0 k.1 c.refuse.ensures;
+      prints = prints_as _ _ _ _ c.args.print.now c.report_refusal.new.out c.report_refusal.result k.0 k.1 c.report_refusal.ensures;
     }
 
 pub returns-in-Err-load : goal.returns-in-Err-load
@@ -37,5 +37,5 @@ returns-in-Err-load c =
     let k = refused_asking bytes text c.in-Err-load.fault (after_none (log_fault 0 text) (load_fault bytes) a.accepted ∙ verdict-err (load_fault bytes) c.in-Err-load.fault c.in-Err-load.ensures.answer) in
     record {
       promised = ask_promises bytes text;
-      prints = prints_as _ _ _ _ c.args.print.now c.refuse-in-Err-load.new.print c.refuse-in-Err-load.result k.0 k.1 c.refuse-in-Err-load.ensures;
+      prints = prints_as _ _ _ _ c.args.print.now c.report_refusal-in-Err-load.new.out c.report_refusal-in-Err-load.result k.0 k.1 c.report_refusal-in-Err-load.ensures;
     }

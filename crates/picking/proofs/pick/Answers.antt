@@ -28,5 +28,5 @@ returns-in-Err c =
     record {
       promised = pick_promises c.args.text.now;
       answers = picks-answer c.args.text.now;
-      prints = prints_as _ _ _ _ c.args.print.now c.refuse.new.print c.refuse.result k.0 k.1 c.refuse.ensures;
+      prints = prints_as _ _ _ _ c.args.print.now c.report_refusal.new.out c.report_refusal.result k.0 k.1 c.report_refusal.ensures;
     }

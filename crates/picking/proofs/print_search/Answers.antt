@@ -14,7 +14,7 @@ returns-in-Err g c =
     let k = refused-start g.S.PageSource.book g.S.PageSource.meter ranker_score rank b c.args.question c.start.result _ c.start.new.self p c.in-Err.fault c.in-Err.is in
     record {
       promised = keeps_promises rank b c.args.question (ranker_rises c.args.ranking) (g.S.PageSource.laws.lawful c.args.source);
-      prints = prints_as _ _ _ _ c.args.print.now c.refuse.new.print c.refuse.result k.0 k.1 c.refuse.ensures;
+      prints = prints_as _ _ _ _ c.args.print.now c.report_refusal.new.out c.report_refusal.result k.0 k.1 c.report_refusal.ensures;
     }
 
 pub returns : goal.returns

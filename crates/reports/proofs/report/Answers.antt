@@ -1,7 +1,6 @@
-use Rattle.std.proofs.Common.{Ok, Err, refl}
+use Rattle.std.proofs.Common.{Ok, Err}
 use Rattle.std.proofs.lemmas.Result.{err_from_is_err_and}
-use Rattle.reports.specs.Reports.{refused}
-use Rattle.reports.proofs.Reporting.{reported_done, reported_short, lines_answered, lines_refused}
+use Rattle.reports.proofs.Reporting.{reported_done, reported_short, reported_refused, lines_answered, lines_refused}
 use Rattle.reports.proofs.report.Goals as goal
 
 pub returns-in_err-print_answer-in-Ok : goal.returns-in_err-print_answer-in-Ok
@@ -14,15 +13,6 @@ returns-in_err-print_answer-in-Ok c =
       lines = lines_answered a a.accepted c.args.print.now c.print_answer.new.print (Err f) c.in_err-print_answer-in-Ok.ensures;
     })
 
-pub returns-in_err-print_refusal-in-Err : goal.returns-in_err-print_refusal-in-Err
-returns-in_err-print_refusal-in-Err c =
-    let p = err_from_is_err_and c.from_residual-in_err-print_refusal-in-Err.result c.from_residual-in_err-print_refusal-in-Err.ensures.1 in
-    let f = c.in_err-print_refusal-in-Err.field-0.0 in
-    rw (p.1, p.2) (record {
-      reported = (_, refused c.in-Err.fault c.in-Err.ensures.refused refl, c.in_err-print_refusal-in-Err.ensures);
-      lines = lines_refused c.args.text.now c.in-Err.fault c.in-Err.ensures.refused c.args.print.now c.print_refusal.new.out (Err f) c.in_err-print_refusal-in-Err.ensures;
-    })
-
 pub returns-in_ok-print_answer-in-Ok : goal.returns-in_ok-print_answer-in-Ok
 returns-in_ok-print_answer-in-Ok c =
     let a = c.in-Ok.ensures in
@@ -32,6 +22,10 @@ returns-in_ok-print_answer-in-Ok c =
       lines = lines_answered a a.accepted c.args.print.now c.print_answer.new.print (Ok n) c.in_ok-print_answer-in-Ok.ensures;
     }
 
-pub returns-in_ok-print_refusal-in-Err-clause-lines : goal.returns-in_ok-print_refusal-in-Err-clause-lines
-returns-in_ok-print_refusal-in-Err-clause-lines c =
-    lines_refused c.args.text.now c.in-Err.fault c.in-Err.ensures.refused c.args.print.now c.print_refusal.new.out (Ok c.in_ok-print_refusal-in-Err.field-0) c.in_ok-print_refusal-in-Err.ensures
+pub returns-in-Err : goal.returns-in-Err
+returns-in-Err c =
+    let refused = c.in-Err.ensures.refused in
+    record {
+      reported = reported_refused c.args.text.now c.in-Err.fault refused c.args.print.now c.report_refusal.new.out c.report_refusal.result c.report_refusal.ensures;
+      lines = lines_refused c.args.text.now c.in-Err.fault refused c.args.print.now c.report_refusal.new.out c.report_refusal.result c.report_refusal.ensures;
+    }

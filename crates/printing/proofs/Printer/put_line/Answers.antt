@@ -17,7 +17,7 @@ write_digits-self-requires c = (omega (arith, part_room c.loop-n.invariant.part 
 pub loop-n-preserved : goal.loop-n-preserved
 loop-n-preserved c = record {
   same = c.put.ensures.same ∙ c.loop-n.invariant.same;
-  part = part_more c.loop-n.invariant.part c.next.new.self.iter.rest.now c.in-Some.n.now c.in-Some.ensures.steps c.put.new.self.start c.put.new.self.out.now c.write_digits-self.result c.write_digits-self.new.buf c.put.ensures.wrote (record { ends = c.write_digits-self.ensures.start; behind = c.write_digits-self.ensures.written });
+  part = part_more c.loop-n.invariant.part c.next.new.self.iter.rest.now c.in-Some.n.now c.in-Some.ensures.steps c.put.new.self.start c.put.new.self.out.now c.write_digits-self.result c.write_digits-self.new.buf c.put.ensures.wrote (record { ends = c.write_digits-self.ensures.start; behind = c.write_digits-self.ensures.written; before = c.write_digits-self.ensures.before });
 }
 
 pub returns-clause-wrote : goal.returns-clause-wrote
