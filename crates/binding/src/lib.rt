@@ -10,7 +10,7 @@ use writer::{CodeKey, write_book};
 pub fn bind_log(text: &[u8], book: &mut [u8]) -> Result<usize, Fault>
     ensures { Binds text.now book.old book.new result }
 {
-    // Lent to the reader, which says how much of it is filled.
+    // Lent to the reader, which says how much of the row is filled, and to the writer.
     let mut row = [Station::default(); MOST_STATIONS];
     let mut work = [CodeKey::default(); MOST_STATIONS];
     let log = read_log(text, &mut row)?;

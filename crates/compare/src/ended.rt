@@ -16,7 +16,8 @@ pub(crate) struct Ended {
 }
 
 impl Ended {
-    // Starts the question and calls next until it says done or refuses: by hand, so that each answer is seen.
+    // Starts the question and calls next until it says done or refuses: by hand and not by the library's `drive`, so that
+    // each answer is seen.
     pub(crate) fn of<S: PageSource + Drop>(
         heap: Global,
         source: S,

@@ -8,6 +8,7 @@ use stations::{Measures, Station};
 use std::alloc::Global;
 use stored::{DEAD, PAGE, Stored};
 
+// Two functions, since a source has no `load`: each kind has its own.
 pub(crate) fn roll_of(row: &[Station]) -> anyhow::Result<Roll<'_>> {
     let mut roll = Roll::new();
     if roll.load(row).is_err() {

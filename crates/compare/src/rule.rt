@@ -12,7 +12,7 @@ pub(crate) struct Seen {
     children: Vec<Child>,
 }
 
-// How a question is asked: as `waiting::Query`, but copied.
+// How a question is asked: apart from the library, which is compared with it.
 #[derive(Clone, Copy)]
 pub(crate) struct Asked {
     pub(crate) ranking: Ranker,

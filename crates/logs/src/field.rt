@@ -44,7 +44,8 @@ struct Digits {
     len: usize,
 }
 
-// The digits at the front of the text, as far as they go, and no more than a number has. The bytes are walked once.
+// The digits at the front of the text, as far as they go, and no more than a number has. The bytes are
+// walked once, by a loop: it ends at the first other byte, and a chain would count and add apart.
 fn read_digits(text: &[u8]) -> Digits
     ensures read { Along text.now result.number result.len }
     ensures most { result.len ≤ most_digits }

@@ -129,7 +129,8 @@ fn fault_numbers(fault: Fault) -> [u64; 3]
     ]
 }
 
-// How long the lines and the closing line are, if that is no longer than the room.
+// How long the lines and the closing line are, if that is no longer than the room. A loop: it ends at the first line that does
+// not fit, and a chain would be no plainer.
 fn listing_len<R: Ranking>(
     list: &[Station],
     ranking: &R,

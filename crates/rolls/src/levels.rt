@@ -21,7 +21,7 @@ pub(crate) fn pages_of(len: usize, level: usize) -> usize
     len.div_ceil(span(level)).max(1)
 }
 
-// The lowest level that has one page.
+// The lowest level that has one page. Spelled out: a search over the levels would want a default that cannot come.
 pub(crate) fn top_level(len: usize) -> usize
     ensures { result ≡ top_level len }
 {

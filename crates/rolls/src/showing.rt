@@ -38,7 +38,8 @@ impl<'a> Place<'a> {
         Page { level: 0, entries }
     }
 
-    // A page that names pages of the level below. Level 0 has none, so this function and the two below ask for a higher level.
+    // A page that names pages of the level below. Level 0 has none, so this function and the two below ask for a
+    // higher level; a type for such places would be made for them alone.
     fn node(&self) -> Page
         requires { 0 < self.now.level }
         ensures { Shows (page_at self.now.row.now self.now.level self.now.below self.now.index) result }

@@ -15,6 +15,7 @@ pub(crate) fn page_at(page: &[u8; PAGE]) -> Page
     ensures by_place { result.entries.items ≡ entries_at page.now (count_byte page.now) }
 {
     let level = level(page);
+    // The two loops differ in what they read; one function for both would take a closure and be longer.
     let mut shown = ArrayVec::new();
     if level == 0 {
         for bytes in entries::<STATION>(page) {

@@ -103,10 +103,7 @@ fn print_weights(rt: &HostRuntime) -> anyhow::Result<()> {
         (0, 0, 1001, 0),
         (0, 0, 0, 1001),
     ] {
-        match Weights::new(w1, w2, w3, w4) {
-            Ok(_) => println!(rt; "accepted")?,
-            Err(fault) => print_fault(rt, fault)?,
-        }
+        print_verdict(rt, Weights::new(w1, w2, w3, w4).map(|_| ()))?;
     }
     Ok(())
 }

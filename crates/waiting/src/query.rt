@@ -58,7 +58,7 @@ impl<R: Ranking> Query<R> {
         }
     }
 
-    // The key by which an entry is taken.
+    // The key by which an entry is taken: both kinds by one way, and a station's is the one that `Station::key` gives.
     fn key_of(&self, entry: Entry) -> Key
         ensures { result ≡ key_of (bands_of R.score self.now) entry }
     {

@@ -13,7 +13,8 @@ use sources::PageSource;
 use stations::{Code, Fault, Station};
 use stored::PAGE;
 
-// How many pages the row's roll has, or why the row is refused.
+// How many pages the row's roll has, or why the row is refused. This roll is of the row as it stands, and that of `write_pages`
+// of the row in code order.
 fn count_pages(row: &[Station]) -> Result<usize, Fault>
     ensures { MatchResult result (λ n. (row_fault row.now ≡ None) × (n ≡ length (roll_book row.now)) × (n ≤ 105)) (λ f. row_fault row.now ≡ Some f) }
 {

@@ -1,3 +1,4 @@
+-- The check asks for each of the answers here, and of those of `pick` and `print_search`.
 use Rattle.std.proofs.Common.{◌∙◌}
 use Rattle.logs.specs.Checks.{log_fault}
 use Rattle.logs.proofs.Verdicts.{verdict-ok, verdict-err, at_some, after_none}
