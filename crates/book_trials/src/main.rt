@@ -43,7 +43,7 @@ fn print_entry(rt: &HostRuntime, entry: Entry) -> anyhow::Result<()> {
 fn print_page(rt: &HostRuntime, number: u32, page: &Page) -> anyhow::Result<()> {
     let level = page.level;
     print!(rt; "{number}: level {level}")?;
-    for entry in page.entries.as_slice() {
+    for entry in &page.entries[..page.len] {
         print_entry(rt, *entry)?;
     }
     println!(rt)?;

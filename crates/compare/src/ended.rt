@@ -23,7 +23,8 @@ impl Ended {
         source: S,
         asked: Asked,
     ) -> anyhow::Result<Ended> {
-        let mut run = Run::new(source, asked.ranking);
+        // A ranking that is lent will do.
+        let mut run = Run::new(source, &asked.ranking);
         let mut listed = Vec::new(heap);
         let mut fault = run.start(asked.question).err();
         // More calls than a list has places.

@@ -36,9 +36,9 @@ fn put_measures(bytes: &mut Vec<u8>, at: Measures) -> anyhow::Result<()> {
 // A page in 256 bytes.
 fn put_page(bytes: &mut Vec<u8>, page: &Page) -> anyhow::Result<()> {
     let end = bytes.len().saturating_add(PAGE);
-    let count = (page.entries.len() & 255) as u8;
+    let count = (page.len & 255) as u8;
     bytes.extend_from_slice(&[page.level, count, 0, 0, 0, 0, 0, 0])?;
-    for entry in page.entries.as_slice() {
+    for entry in &page.entries[..page.len] {
         match *entry {
             Entry::Station(Station { number, at }) => {
                 bytes.extend_from_slice(&number.to_be_bytes())?;

@@ -2,7 +2,7 @@
 use books::{Child, Entry};
 use rankings::{Ranker, Ranking};
 use sources::PageSource;
-use stations::{Code, Fault, Key, Kind, Question, Station};
+use stations::{Code, Fault, Key, Kind, Measures, Question, Region, Station};
 use std::alloc::Global;
 
 // The stations and the named pages of a book's live pages.
@@ -19,6 +19,21 @@ pub(crate) struct Asked {
     pub(crate) question: Question,
 }
 
+// The box's low clipped to the region, unless the box misses it: told here apart from the search, to compare with.
+fn corner(region: Region, bounds: Region) -> Option<Measures> {
+    let at = Measures {
+        m1: bounds.low.m1.max(region.low.m1),
+        m2: bounds.low.m2.max(region.low.m2),
+        m3: bounds.low.m3.max(region.low.m3),
+        m4: bounds.low.m4.max(region.low.m4),
+    };
+    if at.at_most(bounds.high) && at.at_most(region.high) {
+        Some(at)
+    } else {
+        None
+    }
+}
+
 impl Seen {
     pub(crate) fn of<S: PageSource + Drop>(heap: Global, mut source: S) -> anyhow::Result<Seen> {
         let mut stations = Vec::new(heap);
@@ -27,7 +42,7 @@ impl Seen {
             let Ok(page) = source.read(number) else {
                 continue;
             };
-            for entry in page.entries.as_slice() {
+            for entry in &page.entries[..page.len] {
                 match *entry {
                     Entry::Station(station) => stations.push(station)?,
                     Entry::Page(child) => children.push(child)?,
@@ -40,11 +55,7 @@ impl Seen {
     // The key of a page that is called for: its corner is beaten by fewer than k stations in play.
     fn called_key(&self, asked: Asked, child: &Child) -> Option<Key> {
         let Asked { ranking, question } = asked;
-        // The box's low clipped to the region, unless the box misses it: told here apart from the search, to compare with.
-        let at = child.bounds.low.max(question.region.low);
-        if !at.at_most(child.bounds.high) || !at.at_most(question.region.high) {
-            return None;
-        }
+        let at = corner(question.region, child.bounds)?;
         let beaters = self
             .stations
             .iter()

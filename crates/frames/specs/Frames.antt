@@ -8,6 +8,12 @@ abbrev pub length_from : ℕ → List ℕ → Option ℕ
 length_from n [] = Some n
 length_from n (b ∷ bs) = if is_ascii_digit b then (if nat_lt (10 * n + (b - 48)) (2 ^ 64) then length_from (10 * n + (b - 48)) bs else None) else None
 
+-- the number that digits and a line end spell, behind digits that spell n, and what follows the line end; none where another byte
+-- stands among the digits, the number does not fit 64 bits, or no line ends
+abbrev pub header_from : ℕ → List ℕ → Option (ℕ × List ℕ)
+header_from n [] = None
+header_from n (b ∷ bs) = if b == 10 then Some (n, bs) else (if is_ascii_digit b then (if nat_lt (10 * n + (b - 48)) (2 ^ 64) then header_from (10 * n + (b - 48)) bs else None) else None)
+
 -- the first bytes and those that follow them; none where there are fewer
 abbrev pub cut : ℕ → List ℕ → Option (List ℕ × List ℕ)
 cut n bytes = if nat_le n (length bytes) then Some (take n bytes, drop n bytes) else None

@@ -1,2 +1,3 @@
 mod Fronts
+mod Counted
 pub mod Laws

@@ -1,14 +1,12 @@
 -- Text cut at a byte, and put together again.
-use Rattle.std.proofs.Common.{◌≡◌, ℕ, ◌+◌, ◌-◌, ◌<◌, ◌≤◌, Bool, true, false, cond, not, eqb, List, [], ◌∷◌, ◌++◌, length, get_or, take, drop, Some, None, sym, refl, ap, ◌∙◌, ap₂, one-add, arith}
-use Rattle.std.specs.List.{onto_first, prefix_len, position, position_or_len, AllByRecursion as Each}
-use Rattle.std.proofs.lemmas.List.{at_drop_more, drop_at, drop_more, take-append-drop, take_rest, length-take-le, get_or-take}
-use Rattle.std.proofs.lemmas.List.Sums.{prefix_len_passes}
-use Rattle.std.proofs.lemmas.List.Quantifiers.{position-Some}
-use Rattle.std.proofs.ByRecursion.{All-weaker, All-from_get_or}
-use Rattle.std.proofs.lemmas.Bool.{eq-eqb, eqb-true, ltb-false, not-true, or_parts}
+use Rattle.std.proofs.Common.{◌≡◌, ℕ, suc, ◌+◌, ◌<◌, ◌≤◌, Bool, true, false, not, eqb, List, [], ◌∷◌, ◌++◌, length, get_or, take, drop, refl, ap, ◌∙◌, one-add, arith}
+use Rattle.std.specs.List.{onto_first, prefix_len, AllByRecursion as Each}
+use Rattle.std.proofs.lemmas.List.{at_drop_more, drop_at, length-take}
+use Rattle.std.proofs.ByRecursion.{All-weaker}
+use Rattle.std.proofs.lemmas.Bool.{eq-eqb, or_parts}
 use Rattle.logs.specs.Pieces.{pieces, comma, line_end, fields_of}
 use Rattle.logs.specs.Tokens.{parts, front}
-use Rattle.logs.specs.Lines.{Free, Found}
+use Rattle.logs.specs.Lines.{Free}
 
 -- at a separator the first part ends
 pub cut : (sep : ℕ) (p rest : List ℕ) → Free sep p → pieces sep (p ++ sep ∷ rest) ≡ p ∷ pieces sep rest
@@ -29,29 +27,17 @@ some_piece sep (b ∷ bs) = go (eqb b sep) refl (some_piece sep bs)
     go true e h = ([], pieces sep bs, rw e)
     go false e h = (b ∷ h.0, h.1, rw e (ap (onto_first b) h.2))
 
--- the first line end, if there is one
-none_false : (t : Bool) (n : ℕ) → cond t (Some n) None ≡ None → t ≡ false
-none_false true n e = let z : ◌≡◌ {A = ℕ} 0 1 = cc in absurd (omega arith)
-none_false false n e = refl
+-- how many parts two texts have together
+length-onto : (b : ℕ) (sep : ℕ) (bs : List ℕ) → length (onto_first b (pieces sep bs)) ≡ length (pieces sep bs)
+length-onto b sep bs = let h = some_piece sep bs in rw h.2
 
-before_end : (text : List ℕ) (k : ℕ) → k < position_or_len (λ b. eqb b line_end) text → eqb (get_or text k 0) line_end ≡ false
-before_end text k lt = not-true _ (prefix_len_passes (λ b. not (eqb b line_end)) text k 0 lt)
-
-pub line_none : (text : List ℕ) → position (λ b. eqb b line_end) text ≡ None → pieces line_end text ≡ text ∷ []
-line_none text e =
-    let past : length text ≤ position_or_len (λ b. eqb b line_end) text = ltb-false _ _ (none_false _ _ e) in
-    whole line_end text (All-from_get_or (λ b. eqb b line_end ≡ false) text 0 (λ k lt. before_end text k (omega arith)))
-
-pub line_at : (text : List ℕ) (n : ℕ) → position (λ b. eqb b line_end) text ≡ Some n → Found text (take n text) (take (length text - (n + 1)) (drop (n + 1) text))
-line_at text n e =
-    let p = position-Some (λ b. eqb b line_end) text n 0 e in
-    let long : length (take n text) ≡ n = length-take-le n text (omega (arith, p.0)) in
-    record {
-      whole =
-          sym (take-append-drop n text) ∙ ap (λ xs. take n text ++ xs) (drop_more text n 0 p.0)
-          ∙ ap₂ (λ b xs. take n text ++ b ∷ xs) (eqb-true _ _ p.1) (sym (take_rest text (n + 1)));
-      free = All-from_get_or (λ b. eqb b line_end ≡ false) (take n text) 0 (λ k lt. ap (λ b. eqb b line_end) (get_or-take n text k 0 (omega arith)) ∙ p.2 k (omega arith));
-    }
+pub length-pieces : (sep : ℕ) (xs ys : List ℕ) → suc (length (pieces sep (xs ++ ys))) ≡ length (pieces sep xs) + length (pieces sep ys)
+length-pieces sep [] ys = omega arith
+length-pieces sep (b ∷ xs) ys = go (eqb b sep) refl (length-pieces sep xs ys)
+  where
+    go : (t : Bool) → eqb b sep ≡ t → suc (length (pieces sep (xs ++ ys))) ≡ length (pieces sep xs) + length (pieces sep ys) → suc (length (pieces sep (b ∷ (xs ++ ys)))) ≡ length (pieces sep (b ∷ xs)) + length (pieces sep ys)
+    go true e h = rw e (omega arith)
+    go false e h = rw (e, length-onto b sep (xs ++ ys), length-onto b sep xs) h
 
 -- the first byte of a text begins the field, or parts it from the rest
 pub front-step : (b : ℕ) (bs : List ℕ) → parts b ≡ false → front (b ∷ bs) ≡ b ∷ front bs
@@ -72,6 +58,18 @@ front_is (b ∷ bs) = go (parts b) refl (front_is bs)
     go : (t : Bool) → parts b ≡ t → take (prefix_len (λ c. not (parts c)) bs) bs ≡ front bs → take (prefix_len (λ c. not (parts c)) (b ∷ bs)) (b ∷ bs) ≡ front (b ∷ bs)
     go true e h = rw e
     go false e h = rw (e, one-add) (ap (λ xs. b ∷ xs) h)
+
+-- the field as a part of the text
+pub front_prefix : (bs : List ℕ) → take (length (front bs)) bs ≡ front bs
+front_prefix [] = refl
+front_prefix (b ∷ bs) = go (parts b) refl (front_prefix bs)
+  where
+    go : (t : Bool) → parts b ≡ t → take (length (front bs)) bs ≡ front bs → take (length (front (b ∷ bs))) (b ∷ bs) ≡ front (b ∷ bs)
+    go true e h = rw e
+    go false e h = rw e (ap (λ xs. b ∷ xs) h)
+
+pub front-short : (bs : List ℕ) → length (front bs) ≤ length bs
+front-short bs = omega (arith, ap length (front_prefix bs), length-take (length (front bs)) bs)
 
 -- and the rest of the text follows it
 pub front_whole : (bs : List ℕ) → bs ≡ front bs ++ drop (length (front bs)) bs

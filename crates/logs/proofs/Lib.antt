@@ -1,5 +1,6 @@
 pub mod Spelling
 pub mod Cuts
+pub mod Scans
 pub mod Fields
 pub mod Ranges
 pub mod Verdicts

@@ -7,7 +7,7 @@ ghost use Rattle.logs.specs.Fields.{spells, admits};
 ghost use Rattle.logs.specs.Values.{Along, Said, Closed};
 
 use crate::parsed::Parsed;
-use crate::token::{Token, is_end, next_token};
+use crate::token::is_end;
 use rankings::MOST_WEIGHT;
 
 // k and the bounds of a region are read as measures are.
@@ -84,14 +84,13 @@ fn read_number(text: &[u8]) -> Option<Parsed<'_, u64>>
 fn read_letter(text: &[u8]) -> Option<Parsed<'_, u64>>
     ensures { MatchOption result (spells FieldKind.Letter (front text.now) ≡ false) (λ v. Said FieldKind.Letter text.now v.value v.rest.now) }
 {
-    let Some(Token::Field(field, _)) = next_token(text, 0) else {
-        return None;
-    };
-    match field {
-        [letter] if FieldKind::Letter.admits(*letter as u64) => Some(Parsed {
-            value: *letter as u64,
-            rest: &text[1..],
-        }),
+    match text {
+        [letter, rest @ ..] if FieldKind::Letter.admits(*letter as u64) && is_end(rest) => {
+            Some(Parsed {
+                value: *letter as u64,
+                rest,
+            })
+        }
         _ => None,
     }
 }

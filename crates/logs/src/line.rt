@@ -10,6 +10,7 @@ ghost use Rattle.logs.specs.Walks.{Taken, first_fault};
 
 use crate::field::FieldKind;
 use crate::parsed::Parsed;
+use crate::token::{Token, next_token};
 use stations::{Code, Fault};
 
 // A kind of line: the kinds of its fields.
@@ -50,22 +51,39 @@ pub(crate) const STATION_LINE: LineKind<5> = LineKind {
     ],
 };
 
-// The line at the front of the text, without its end, and what is left behind that. None where no line end follows.
-fn split_line(text: &[u8]) -> Option<Parsed<'_, &[u8]>>
-    ensures { MatchOption result (Unended text.now) (λ line. Found text.now line.value.now line.rest.now) }
-{
-    let len = text.iter().position(|b| *b == b'\n')?;
-    Some(Parsed {
-        value: &text[..len],
-        rest: &text[len + 1..],
-    })
+// A line without its end, how many fields it has, and what is left behind its end.
+#[derive(Clone, Copy)]
+struct Line<'a> {
+    bytes: &'a [u8],
+    fields: usize,
+    rest: &'a [u8],
 }
 
-// How many fields a line has.
-fn field_count(line: &[u8]) -> usize
-    ensures { result ≡ length (fields_of line.now) }
+// The line at the front of the text, cut by its tokens in one walk. None where no line end follows. Never inlined, so that both
+// kinds of line share it.
+#[inline(never)]
+fn split_line(text: &[u8]) -> Option<Line<'_>>
+    ensures { MatchOption result (Unended text.now) (λ line. (Found text.now line.bytes.now line.rest.now) × (line.fields ≡ length (fields_of line.bytes.now))) }
 {
-    line.split(|b| *b == b',').count()
+    let mut at = 0;
+    let mut commas = 0;
+    while let Some(token) = next_token(text, at) {
+        match token {
+            Token::Field(bytes, _) => at += bytes.len(),
+            Token::Comma(_) => {
+                commas += 1;
+                at += 1;
+            }
+            Token::LineEnd(end) => {
+                return Some(Line {
+                    bytes: &text[..end],
+                    fields: commas + 1,
+                    rest: &text[end + 1..],
+                });
+            }
+        }
+    }
+    None
 }
 
 // What is left behind the comma that comes first, or nothing behind the last field.
@@ -153,10 +171,10 @@ impl<const N: usize> LineKind<N> {
         let Some(line) = split_line(text) else {
             return Err(Code::BadField.at(number, 0));
         };
-        if field_count(line.value) != N {
+        if line.fields != N {
             return Err(Code::BadField.at(number, 0));
         }
-        let numbers = self.read_fields(number, line.value)?;
+        let numbers = self.read_fields(number, line.bytes)?;
         self.check_ranges(number, &numbers)?;
         Ok(Parsed {
             value: numbers,

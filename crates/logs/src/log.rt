@@ -1,9 +1,9 @@
 // A whole log: the question's line, and then the stations'.
-ghost use Rattle.std.specs.Prelude.{◌≡◌, ◌+◌, ◌≤◌, true, [], length, Some, MatchResult, slice_index};
+ghost use Rattle.std.specs.Prelude.{◌≡◌, ℕ, ◌+◌, ◌≤◌, true, List, [], length, Some, MatchResult, slice_index};
 ghost use Rattle.stations.specs.Beating.{Ordinary};
 ghost use Rattle.logs.specs.Pieces.{lines_of};
 ghost use Rattle.logs.specs.Fields.{question_line, station_line, admits, pass};
-ghost use Rattle.logs.specs.Checks.{lines_fault, stations_fault, measures_at, question_of, station_of};
+ghost use Rattle.logs.specs.Checks.{most_bytes, lines_fault, stations_fault, measures_at, question_of, station_of};
 ghost use Rattle.logs.specs.Rendering.{letter_of, weights_of, weight_numbers, weights_at};
 ghost use Rattle.logs.specs.Reading.{Headed, Filled, Accepted, Refused};
 
@@ -117,6 +117,24 @@ fn read_stations(text: &[u8], row: &mut ArrayVec<Station, MOST_STATIONS>) -> Res
     Ok(())
 }
 
+// Reads the stations' lines into the row that is lent, and checks what was read. Apart from `read_log` and never inlined: a call
+// blanks a row of its own where it begins, which a text that is refused before need not wait for.
+#[inline(never)]
+fn fill_row(log: Log, lines: &[u8], row: &mut [Station]) -> Result<Log, Fault>
+    ensures { (text : List ℕ) → length text ≤ most_bytes → Headed text log.ranking log.question lines.now → MatchResult result (Accepted text row.old row.new) (Refused text row.old row.new) }
+{
+    let mut read = ArrayVec::new();
+    read_stations(lines, &mut read)?;
+    check_row(&read)?;
+    log.question.check()?;
+    let count = read.len();
+    if count > row.len() {
+        return Err(Code::ShortBuffer.into());
+    }
+    row[..count].copy_from_slice(&read);
+    Ok(Log { count, ..log })
+}
+
 // Reads a log into the row. A text that is refused leaves the row as it was.
 pub fn read_log(text: &[u8], row: &mut [Station]) -> Result<Log, Fault>
     ensures { MatchResult result (Accepted text.now row.old row.new) (Refused text.now row.old row.new) }
@@ -125,15 +143,5 @@ pub fn read_log(text: &[u8], row: &mut [Station]) -> Result<Log, Fault>
         return Err(Code::TextTooLong.into());
     }
     let heading = read_question(text)?;
-    let mut read = ArrayVec::new();
-    read_stations(heading.rest, &mut read)?;
-    check_row(&read)?;
-    let log = heading.value;
-    log.question.check()?;
-    let count = read.len();
-    if count > row.len() {
-        return Err(Code::ShortBuffer.into());
-    }
-    row[..count].copy_from_slice(&read);
-    Ok(Log { count, ..log })
+    fill_row(heading.value, heading.rest, row)
 }

@@ -39,7 +39,10 @@ fn field_len(text: &[u8]) -> usize
 pub fn next_token<'a>(text: &'a [u8], at: usize) -> Option<Token<'a>>
     ensures { MatchOption result (length text.now ≤ at) (λ t. Reads text.now at t) }
 {
-    match *text.get(at)? {
+    if at >= text.len() {
+        return None;
+    }
+    match text[at] {
         b',' => Some(Token::Comma(at)),
         b'\n' => Some(Token::LineEnd(at)),
         _ => {

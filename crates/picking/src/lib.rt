@@ -10,7 +10,7 @@ ghost use Rattle.printing.specs.Printed.{closing_line, closed_listing, Prints};
 ghost use Rattle.picking.specs.Picks.{fault_in, closing_at, search_fault, search_lines, pick_fault, pick_lines, ask_fault, ask_lines, KeepsPromises, PicksAnswer};
 
 use logs::read_log;
-use printing::{Closing, Report, print_listing, report_refusal};
+use printing::{Closing, Report, print_listing_closed, report_refusal};
 use rankings::Ranker;
 use rolls::Roll;
 use search::Run;
@@ -30,7 +30,7 @@ fn print_end(
 {
     let refusal = end.err();
     let closing = refusal.map_or(Closing::Done(pages), Closing::Refused);
-    let len = print_listing(list, &ranking, closing, print)?;
+    let len = print_listing_closed(list, &ranking, closing, print)?;
     Ok(Report { len, refusal })
 }
 

@@ -44,9 +44,9 @@ module _ {end : ℕ} {was numbers rest : List ℕ} {next start : ℕ} {is : List
     again = p.split ∙ ap (λ xs. xs ++ p.done) more ∙ append_assoc left (n ∷ []) p.done
 
     -- there is room for the number and the byte behind it
-    pub part_room : (word : List ℕ) → length (word ++ numbered numbers) ≤ end → length (decimal n) + 1 ≤ start
-    part_room word room =
-        omega (arith, ap (λ xs. length (numbered xs)) again, numbered-longer left (n ∷ p.done), length-append (decimal n) (ender p.done ∷ numbered p.done), length-append word (numbered numbers), p.wrote.ends)
+    pub part_room : length (numbered numbers) ≤ end → length (decimal n) + 1 ≤ start
+    part_room room =
+        omega (arith, ap (λ xs. length (numbered xs)) again, numbered-longer left (n ∷ p.done), length-append (decimal n) (ender p.done ∷ numbered p.done), p.wrote.ends)
 
     pub part_more : (at : ℕ) (mid : List ℕ) (first : ℕ) (after : List ℕ) → Wrote start is (next ∷ []) at mid → Wrote at mid (decimal n) first after → Part end was numbers left 44 first after
     part_more at mid first after q r =

@@ -46,8 +46,9 @@ struct Printer<'a> {
 
 // That the buffer stays the one that was lent (`same`) is told anew by each method: a field cannot speak of what was lent.
 impl<'a> Printer<'a> {
-    // Puts bytes in front.
-    fn put(&mut self, bytes: &[u8])
+    // Puts bytes in front. How many is known to the compiler, which so writes them in place: for a length that it does not know it
+    // would call `memmove`, and an archive for C would need that from outside.
+    fn put<const N: usize>(&mut self, bytes: &[u8; N])
         requires { length bytes.now ≤ self.old.start }
         ensures same { self.new.out.ghost_name ≡ self.old.out.ghost_name }
         ensures wrote { Wrote self.old.start self.old.out.now bytes.now self.new.start self.new.out.now }
@@ -57,11 +58,11 @@ impl<'a> Printer<'a> {
         self.out[self.start..end].copy_from_slice(bytes);
     }
 
-    // Puts a line in front.
-    fn put_line(&mut self, word: &[u8], numbers: &[u64])
-        requires { length (word.now ++ numbered numbers.now) ≤ self.old.start }
+    // Puts a line of numbers in front.
+    fn put_line(&mut self, numbers: &[u64])
+        requires { length (numbered numbers.now) ≤ self.old.start }
         ensures same { self.new.out.ghost_name ≡ self.old.out.ghost_name }
-        ensures wrote { Wrote self.old.start self.old.out.now (word.now ++ numbered numbers.now) self.new.start self.new.out.now }
+        ensures wrote { Wrote self.old.start self.old.out.now (numbered numbers.now) self.new.start self.new.out.now }
     {
         let mut behind = b'\n';
         for n in numbers.iter().rev() {
@@ -69,7 +70,6 @@ impl<'a> Printer<'a> {
             self.start = write_digits(*n, self.out, self.start);
             behind = b',';
         }
-        self.put(word);
     }
 
     // Puts the closing line in front.
@@ -80,17 +80,23 @@ impl<'a> Printer<'a> {
     {
         match closing {
             Closing::Complete => self.put(COMPLETE),
-            Closing::Done(pages) => self.put_line(DONE, &[pages as u64]),
-            Closing::Refused(fault) => self.put_line(REFUSED, &fault_numbers(fault)),
+            Closing::Done(pages) => {
+                self.put_line(&[pages as u64]);
+                self.put(DONE);
+            }
+            Closing::Refused(fault) => {
+                self.put_line(&fault_numbers(fault));
+                self.put(REFUSED);
+            }
         }
     }
 }
 
-const COMPLETE: &[u8] = b"done\n";
+const COMPLETE: &[u8; 5] = b"done\n";
 
-const DONE: &[u8] = b"done,";
+const DONE: &[u8; 5] = b"done,";
 
-const REFUSED: &[u8] = b"refused,";
+const REFUSED: &[u8; 8] = b"refused,";
 
 // How long the closing line is.
 fn closing_len(closing: Closing) -> usize
@@ -146,15 +152,25 @@ fn listing_len<R: Ranking>(
     Some(room - left)
 }
 
-// Prints a line for each station, number, M1 to M4 and rank, and then the closing line.
+// Prints a line for each station, number, M1 to M4 and rank, and then `done`.
 pub fn print_listing<R: Ranking>(
+    list: &[Station],
+    ranking: &R,
+    out: &mut [u8],
+) -> Result<usize, Fault>
+    ensures { Printed (listing (R.score ranking.now) list.now) out.old out.new result }
+{
+    print_listing_closed(list, ranking, Closing::Complete, out)
+}
+
+// Prints a line for each station, number, M1 to M4 and rank, and then the closing line.
+pub fn print_listing_closed<R: Ranking>(
     list: &[Station],
     ranking: &R,
     closing: Closing,
     out: &mut [u8],
 ) -> Result<usize, Fault>
-    ensures lines { Printed (closed_listing (R.score ranking.now) (closing_line closing) list.now) out.old out.new result }
-    ensures complete { closing ≡ Closing.Complete → Printed (listing (R.score ranking.now) list.now) out.old out.new result }
+    ensures { Printed (closed_listing (R.score ranking.now) (closing_line closing) list.now) out.old out.new result }
 {
     let Some(len) = listing_len(list, ranking, closing, out.len()) else {
         return Err(Code::ShortBuffer.into());
@@ -162,7 +178,7 @@ pub fn print_listing<R: Ranking>(
     let mut printer = Printer { out, start: len };
     printer.put_closing(closing);
     for s in list.iter().rev() {
-        printer.put_line(b"", &station_numbers(*s, ranking));
+        printer.put_line(&station_numbers(*s, ranking));
     }
     Ok(len)
 }

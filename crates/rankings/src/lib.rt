@@ -103,3 +103,16 @@ impl Ranking for Ranker {
         }
     }
 }
+
+// A ranking that is lent ranks as it does.
+impl<'a, R: Ranking> Ranking for &'a R {
+    ghost score = { λ r p. R.score r.now p };
+
+    ghost monotone = { λ r p q h. R.monotone r.now p q h };
+
+    ghost bounded = { λ r p h. R.bounded r.now p h };
+
+    fn rank(&self, at: Measures) -> u64 {
+        (**self).rank(at)
+    }
+}

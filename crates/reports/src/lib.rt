@@ -6,7 +6,8 @@ ghost use Rattle.printing.specs.Printed.{Printed};
 ghost use Rattle.reports.specs.Reports.{answer_lines, report_lines, length_in, Reported};
 
 use logs::{Log, read_log};
-use printing::{Closing, Report, print_listing, report_refusal};
+pub use printing::Report;
+use printing::{print_listing, report_refusal};
 use scans::scan;
 use stations::{Fault, MOST_STATIONS, Station};
 
@@ -18,7 +19,7 @@ fn print_answer(row: &[Station], log: &Log, print: &mut [u8]) -> Result<usize, F
     // Lent to the scan, which says how much of it is filled.
     let mut list = [Station::default(); MOST_STATIONS];
     let n = scan(row, log.question, &log.ranking, &mut list)?;
-    print_listing(&list[..n], &log.ranking, Closing::Complete, print)
+    print_listing(&list[..n], &log.ranking, print)
 }
 
 // Prints the stations that the log's question asks for and `done`, or the refusal of the log.

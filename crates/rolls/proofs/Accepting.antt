@@ -64,3 +64,7 @@ sound row e measures =
 -- what a roll carries of its row
 pub carried : (row : List Station) → Sound row → (1 ≤ length (roll_book row)) × (length (roll_book row) ≤ 105) × ∥ Lawful (roll_book row) ∥₁
 carried row s = (rw length_roll (count-some (length row)), rw length_roll (count-few (length row) s.few), ∣ (rows_make_books row s).lawful ∣₁)
+
+-- no station is a sound row
+pub empty_sound : Sound []
+empty_sound = record { few = omega arith; numbers = tt; numbered_once = λ n. omega arith; measures = tt }

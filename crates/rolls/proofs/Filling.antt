@@ -23,7 +23,7 @@ module _ {A : Type 0} where
       ∙ ap (map f) (sym (take_more (drop from xs) i d here))
 
 -- a page that names pages of the level below, by its entries
-pub shows-node : (row : List Station) (l below i : ℕ) (page : Page) → 0 < l → page.level ≡ l → page.entries.items ≡ map entries.Page (part 12 (children row (l - 1) below) i) → Shows (page_at row l below i) page
+pub shows-node : (row : List Station) (l below i : ℕ) (page : Page) → 0 < l → page.level ≡ l → take page.len page.entries ≡ map entries.Page (part 12 (children row (l - 1) below) i) → Shows (page_at row l below i) page
 shows-node row zero below i page h level shown = absurd (omega arith)
 shows-node row (suc l) below i page h level shown = record {
   levels = level;

@@ -6,7 +6,6 @@ ghost use Rattle.rolls.specs.Rolls.{part, span as span_of, pages_of, child as ch
 use crate::boxes::around;
 use crate::levels::{pages_of, span};
 use crate::place::Place;
-use arrayvec::ArrayVec;
 use books::{Child, Entry};
 use sources::{MOST_ENTRIES, Page};
 use stations::Station;
@@ -24,18 +23,23 @@ impl<'a> Place<'a> {
     }
 
     // A page of stations. Its loop and that of the other kind of page differ in what they put; a third function over a closure
-    // would be longer than both. Entries are pushed one by one, since `extend` gives back an error that cannot come here.
+    // would be longer than both. Entries are put by place: a proof does not know what a walk zipped with `iter_mut` leaves.
     fn leaf(&self) -> Page
         requires { self.now.level ≡ 0 }
         ensures { Shows (page_at self.now.row.now 0 0 self.now.index) result }
     {
         let from = self.index * MOST_ENTRIES;
         let end = (from + MOST_ENTRIES).min(self.row.len());
-        let mut entries = ArrayVec::new();
-        for station in &self.row[from..end] {
-            entries.push(Entry::Station(*station));
+        let stations = &self.row[from..end];
+        let mut entries = [Entry::default(); MOST_ENTRIES];
+        for (place, station) in stations.iter().enumerate() {
+            entries[place] = Entry::Station(*station);
         }
-        Page { level: 0, entries }
+        Page {
+            level: 0,
+            len: stations.len(),
+            entries,
+        }
     }
 
     // A page that names pages of the level below. Level 0 has none, so this function and the two below ask for a
@@ -46,12 +50,14 @@ impl<'a> Place<'a> {
     {
         let from = self.index * MOST_ENTRIES;
         let end = (from + MOST_ENTRIES).min(pages_of(self.row.len(), self.level - 1));
-        let mut entries = ArrayVec::new();
-        for index in from..end {
-            entries.push(Entry::Page(self.child(index)));
+        let mut entries = [Entry::default(); MOST_ENTRIES];
+        let len = end - from;
+        for place in 0..len {
+            entries[place] = Entry::Page(self.child(from + place));
         }
         Page {
             level: self.level as u8,
+            len,
             entries,
         }
     }

@@ -27,7 +27,11 @@ use Rattle.search.specs.declared.run.Run.{Run}
 use Rattle.waiting.specs.Held.{held, listing, Taken, Lists}
 use Rattle.waiting.specs.States.{Reply, At, Opens, Turned, Gave}
 use Rattle.search.specs.Runs.{Unchanged, Kept, query_of, StandsAt, OpensTo, TurnsTo, RepliesWith}
+use Rattle.waiting.proofs.Filling.{held-length}
 use Rattle.waiting.proofs.Turns as turns
+
+pub held-few : (w : Queue) → length (held w) ≤ 1024
+held-few w = omega (arith, held-length w)
 
 pub popped_used : (w w' : Queue) (v : Waiting) → Taken (held w) v (held w') → length (held w) ≡ suc (length (held w'))
 popped_used w w' v t = omega (arith, length_permutation (held w) (v ∷ held w') t.holds)
@@ -129,7 +133,7 @@ module _ {S R : Type 0} (source : PageSource S) (ranking : Ranking R) (mono : (s
           named o h = opens-sized c.page (listing r.listed) ys (held r'.waiting) r.opened r'.opened o (subst (λ p. Opens q b (source.pages r.source) p (listing r.listed) ys (held r'.waiting) r.opened r'.opened o) page h)
 
           pub entered : Opens q b (source.pages r.source) p (listing r.listed) ys (held r'.waiting) r.opened r'.opened (Ok tt) → TurnsTo source ranking r None r'
-          entered h = subst (λ l. Turned q b (listing r.listed) None (held r'.waiting) (listing l) r'.opened) (sym l) (turns.entered q laws b lawful u (held r.waiting) (listing r.listed) r.opened at-u w ys taken c is (sym passed) (held r'.waiting) r'.opened r'.waiting.few (named (Ok tt) h))
+          entered h = subst (λ l. Turned q b (listing r.listed) None (held r'.waiting) (listing l) r'.opened) (sym l) (turns.entered q laws b lawful u (held r.waiting) (listing r.listed) r.opened at-u w ys taken c is (sym passed) (held r'.waiting) r'.opened (held-few r'.waiting) (named (Ok tt) h))
 
           pub refused : (f : Fault) → Opens q b (source.pages r.source) p (listing r.listed) ys (held r'.waiting) r.opened r'.opened (Err f) → TurnsTo source ranking r (Some (Err f)) r'
           refused f h = subst (λ l. Turned q b (listing r.listed) (Some (Err f)) (held r'.waiting) (listing l) r'.opened) (sym l) (turns.refused q laws b lawful u (held r.waiting) (listing r.listed) r.opened at-u w ys taken c is (sym passed) (held r'.waiting) r'.opened (few (up_to (key_of q w.entry))) f (named (Err f) h))
@@ -143,7 +147,7 @@ module _ {S R : Type 0} (source : PageSource S) (ranking : Ranking R) (mono : (s
     top-refused f h = subst (λ l. Gave q b (listing r.listed) (Err f) (held r'.waiting) (listing l) r'.opened) (sym l) (turns.top-refused q laws b lawful (held r.waiting) (listing r.listed) (fresh.1, fresh.2) (held r'.waiting) r'.opened some f (at_first (Err f) h))
 
     begun : Kept source r r' → OpensTo source ranking r 0 (Ok tt) r' → StandsAt source ranking (below top_key) r'
-    begun kept h = stands-still source ranking r r' kept (below top_key) (subst (λ l. At q b (below top_key) (held r'.waiting) (listing l) r'.opened) (sym l) (turns.begun q laws b lawful (held r.waiting) (listing r.listed) (fresh.1, fresh.2) (held r'.waiting) r'.opened r'.waiting.few (at_first (Ok tt) h)))
+    begun kept h = stands-still source ranking r r' kept (below top_key) (subst (λ l. At q b (below top_key) (held r'.waiting) (listing l) r'.opened) (sym l) (turns.begun q laws b lawful (held r.waiting) (listing r.listed) (fresh.1, fresh.2) (held r'.waiting) r'.opened (held-few r'.waiting) (at_first (Ok tt) h)))
 
     pub begun-then : Kept source r r' → OpensTo source ranking r 0 (Ok tt) r' → (r'' : Run S R) (reply : Reply) → ((u : Bound) → StandsAt source ranking u r' → RepliesWith source ranking r' reply r'') → RepliesWith source ranking r reply r''
     begun-then kept h r'' reply gives = turns-still source ranking r r' kept r'' (Some reply) (ap listing l) (gives (below top_key) (begun kept h))

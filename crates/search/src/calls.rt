@@ -58,8 +58,8 @@ impl<S: PageSource, R: Ranking> Run<S, R> {
         ensures phase { self.new.phase ≡ phase }
         ensures none { (self.new.opened ≡ 0) × (length (held self.new.waiting) ≡ 0) × (length (listing self.new.listed) ≡ 0) }
     {
-        self.waiting.items.clear();
-        self.listed.stations.clear();
+        self.waiting.used = 0;
+        self.listed.len = 0;
         self.opened = 0;
         self.phase = phase;
     }
@@ -112,7 +112,7 @@ impl<S: PageSource, R: Ranking> Run<S, R> {
         ensures fields { (result.0 ≡ self.now.opened) × (result.1 ≡ length (listing self.now.listed)) }
         ensures produced { Told S.PageSource R.Ranking self.now (λ rank b h stands m. (result.0 ≡ length (pages_opened rank b stands)) × (result.1 ≡ length (handed_in [] h))) }
     {
-        (self.opened, self.listed.stations.len())
+        (self.opened, self.listed.len)
     }
 
     // The stations handed out for the search that stands, in that order.
@@ -120,7 +120,7 @@ impl<S: PageSource, R: Ranking> Run<S, R> {
         ensures fields { result.now ≡ listing self.now.listed }
         ensures produced { Told S.PageSource R.Ranking self.now (λ rank b h stands m. result.now ≡ handed_in [] h) }
     {
-        &self.listed.stations
+        &self.listed.stations[..self.listed.len]
     }
 
     // Calls `next` until the search is done or refuses.

@@ -1,5 +1,5 @@
 -- What a page source means, and what each read gives.
-use Rattle.std.specs.Prelude.{◌≡◌, ℕ, ◌^◌, ◌<◌, ◌≤◌, length, Ok, Err, MatchBool, Result, nat_lt}
+use Rattle.std.specs.Prelude.{◌≡◌, ℕ, ◌^◌, ◌<◌, ◌≤◌, length, take, Ok, Err, MatchBool, Result, nat_lt}
 use Rattle.stations.specs.declared.fault.Fault.{Fault}
 use Rattle.stations.specs.declared.fault.Code.TheVariants.{PageNumber, DeadPage}
 use Rattle.stations.specs.Faults.{fault}
@@ -9,7 +9,7 @@ use Rattle.sources.specs.declared.page.Page.{Page}
 -- the page shows the live slot: its level, and its entries in order
 pub record Shows (s : Slot) (page : Page) : Type 0 where
   pub levels : page.level ≡ level s
-  pub shown : page.entries.items ≡ entries_on s
+  pub shown : take page.len page.entries ≡ entries_on s
 
 -- a page comes, and it shows the slot
 abbrev pub Seen : Slot → Result Page Fault → Type 0

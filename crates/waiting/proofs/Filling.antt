@@ -1,7 +1,7 @@
 -- Entries put to what waits, one after the other.
 use Rattle.std.proofs.Common.{◌≡◌, ℕ, zero, suc, ◌+◌, ◌<◌, ◌≤◌, Bool, true, ◌&&◌, List, [], ◌∷◌, ◌++◌, length, get_or, take, Ok, Err, filter, Result, sym, refl, ap, ◌∙◌, subst, arith}
 use Rattle.std.specs.List.Sorted.{IsPermutation}
-use Rattle.std.proofs.lemmas.List.{length-map, length-append, take_more}
+use Rattle.std.proofs.lemmas.List.{length-take-le, length-map, length-append, take_more}
 use Rattle.std.proofs.lemmas.List.Sorted.{length_permutation}
 use Rattle.std.proofs.ByRecursion.{all_shuffled}
 use Rattle.stations.specs.declared.station.Station.{Station}
@@ -15,7 +15,15 @@ use Rattle.promises.proofs.Lists.{count_append, count-all, length-kept}
 use Rattle.promises.proofs.Places.{count_kept, count_map}
 use Rattle.waiting.specs.declared.waiting.Full.{Full}
 use Rattle.waiting.specs.declared.waiting.Waiting.{Waiting}
-use Rattle.waiting.specs.Held.{waiting_of, Keyed, entries_of, Put, Puts, Filled, Fills}
+use Rattle.waiting.specs.declared.waiting.Queue.{Queue}
+use Rattle.waiting.specs.declared.listed.Listed.{Listed}
+use Rattle.waiting.specs.Held.{held, listing, waiting_of, Keyed, entries_of, Put, Puts, Filled, Fills}
+
+pub held-length : (w : Queue) → length (held w) ≡ w.used
+held-length w = length-take-le w.used w.items (omega arith)
+
+pub listing-length : (l : Listed) → length (listing l) ≡ l.len
+listing-length l = length-take-le l.len l.stations (omega arith)
 
 -- shuffled keys, as tests count their entries
 pub same_shuffled : (xs ys : List Waiting) → IsPermutation xs ys → Same (entries_of ys) (entries_of xs)

@@ -1,16 +1,13 @@
 -- The heap's words, as what waits says them.
-use Rattle.std.proofs.Common.{◌≡◌, ℕ, ◌-◌, Bool, true, false, cond, ◌&&◌, ◌||◌, eqb, ltb, List, [], ◌∷◌, ◌++◌, length, take, Ordering, Less, Equal, Greater, sym, refl, ap, ◌∙◌, subst}
+use Rattle.std.proofs.Common.{◌≡◌, ℕ, ◌+◌, ◌-◌, Bool, true, false, cond, ◌&&◌, ◌||◌, eqb, ltb, List, take, Ordering, Less, Equal, Greater, sym, refl, ap, ◌∙◌, subst}
 use Rattle.std.specs.Ordering.{is_lt, ordering_then, nat_cmp}
-use Rattle.std.specs.List.{refill}
-use Rattle.std.proofs.lemmas.List.Sorted.{length_permutation}
-use Rattle.arrayvec.proofs.ArrayVecLemmas.{items-with_items}
 use Rattle.std.proofs.ByRecursion.{All-weaker}
 use Rattle.stations.specs.declared.key.Kind as kinds
 use Rattle.stations.specs.declared.key.Kind.TheVariants as variants
 use Rattle.stations.specs.contracts.key.KindOrd.TheImpl.{ghosts as kind_ghosts}
 use Rattle.stations.specs.Keys.{before, lex, kind_number}
-use Rattle.heaps.specs.Heap.{earlier, all_but_last, Pushed, Popped}
-use Rattle.heaps.proofs.Laws.{pushed-key, popped-first}
+use Rattle.heaps.specs.Heap.{earlier, Pushed, Popped}
+use Rattle.heaps.proofs.Laws.{popped-first}
 use Rattle.waiting.specs.declared.waiting.Waiting.{Waiting}
 use Rattle.waiting.specs.contracts.waiting.WaitingOrd.TheImpl.{ghosts}
 use Rattle.waiting.specs.Orders.{by_key}
@@ -44,16 +41,16 @@ told v w =
     let of-kind = ap (λ o. is_lt (ordering_then o (nat_cmp j.number k.number))) (kinds-ranked j.kind k.kind) ∙ part (kind_number j.kind) (kind_number k.kind) (nat_cmp j.number k.number) _ numbers in
     part j.rank k.rank _ _ (part j.sum k.sum _ _ of-kind)
 
--- one more is put behind them, and moves to its place
-pub put-from : (xs : List Waiting) (w : Waiting) (whole new : List Waiting) → whole ≡ xs ++ w ∷ [] → Pushed ghosts.cmp whole new → Put xs w (refill (length whole) whole new)
-put-from xs w whole new e p =
-    let k = pushed-key ghosts.cmp xs new w (subst (λ ys. Pushed ghosts.cmp ys new) e p) in
-    subst (Put xs w) (sym (items-with_items (record { items = whole }) new (length_permutation whole new p.holds))) record { holds = k.0; heap = k.1 by_key }
+module _ (old : List Waiting) (used : ℕ) (key : Waiting) (new : List Waiting) where
+  pub put-from : (n : ℕ) → n ≡ used + 1 → Pushed ghosts.cmp old used key new → Put (take used old) key (take n new)
+  put-from n e p = subst (λ m. Put (take used old) key (take m new)) (sym e) record {
+    holds = p.holds;
+    heap = p.heap by_key;
+  }
 
--- the least is taken from the front, and the last place goes
-pub taken-from : (xs : List Waiting) (w : Waiting) (new : List Waiting) → Popped ghosts.cmp xs w new → length new ≡ length xs → Taken xs w (take (length (refill (length xs) xs new) - 1) (refill (length xs) xs new))
-taken-from xs w new p l = subst (λ ys. Taken xs w (take (length ys - 1) ys)) (sym (items-with_items (record { items = xs }) new l)) record {
-  holds = p.holds;
-  heap = p.heap by_key;
-  least = λ h. All-weaker (λ v. earlier by_key v w ≡ false) (λ v. before v.key w.key ≡ false) (λ v e. sym (told v w) ∙ e) (all_but_last ghosts.cmp new) (popped-first ghosts.cmp xs new w by_key p h);
-}
+  pub taken-from : Popped ghosts.cmp old used key new → Taken (take used old) key (take (used - 1) new)
+  taken-from p = record {
+    holds = p.holds;
+    heap = p.heap by_key;
+    least = λ h. All-weaker (λ v. earlier by_key v key ≡ false) (λ v. before v.key key.key ≡ false) (λ v e. sym (told v key) ∙ e) (take (used - 1) new) (popped-first ghosts.cmp old used key new by_key p h);
+  }

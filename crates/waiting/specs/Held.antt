@@ -1,5 +1,5 @@
 -- What the waiting and the listed hold, and what putting and taking do.
-use Rattle.std.specs.Prelude.{◌≡◌, ℕ, ◌+◌, ◌<◌, ◌≤◌, false, List, [], ◌∷◌, ◌++◌, map, length, Some, None, Ok, Err, filter, Option, Result}
+use Rattle.std.specs.Prelude.{◌≡◌, ℕ, ◌+◌, ◌<◌, ◌≤◌, false, List, [], ◌∷◌, ◌++◌, map, length, take, Some, None, Ok, Err, filter, Option, Result}
 use Rattle.std.specs.List.Sorted.{IsPermutation}
 use Rattle.std.specs.List.{AllByRecursion as Each}
 use Rattle.stations.specs.declared.station.Station.{Station}
@@ -18,11 +18,11 @@ use Rattle.waiting.specs.Orders.{by_key}
 
 -- the entries that wait, as the heap has them
 abbrev pub held : Queue → List Waiting
-held w = w.items.items
+held w = take w.used w.items
 
 -- the stations listed
 abbrev pub listing : Listed → List Station
-listing l = l.stations.items
+listing l = take l.len l.stations
 
 -- one more is listed where there is room
 abbrev pub Lists : ℕ → List Station → Station → Result (Unit {0}) Full → List Station → Type 0

@@ -7,20 +7,20 @@ ghost use Rattle.promises.specs.Bands.{bands};
 ghost use Rattle.promises.specs.Waiting.{passes};
 ghost use Rattle.waiting.specs.Held.{listing, Lists};
 
-use crate::listed::Listed;
+use crate::listed::{Listed, MOST_LISTED};
 use crate::query::Query;
 use crate::waiting::Full;
-use arrayvec::ArrayVec;
 use books::Entry;
 use stations::{Measures, Station};
 
 impl Listed {
-    // Nothing is listed.
+    // Nothing is listed. What fills the places does not count.
     pub fn new() -> Self
         ensures { listing result ≡ [] }
     {
         Listed {
-            stations: ArrayVec::new(),
+            stations: [Station::default(); MOST_LISTED],
+            len: 0,
         }
     }
 
@@ -28,14 +28,23 @@ impl Listed {
     pub fn push(&mut self, station: Station) -> Result<(), Full>
         ensures { Lists 512 (listing self.old) station result (listing self.new) }
     {
-        self.stations.try_push(station).map_err(|_| Full)
+        let n = self.len;
+        if n >= MOST_LISTED {
+            return Err(Full);
+        }
+        self.stations[n] = station;
+        self.len = n + 1;
+        Ok(())
     }
 
     // How many of the listed stations beat the measures.
     pub fn beating(&self, at: Measures) -> usize
         ensures { result ≡ count (λ s. beats s.at «at») (listing self.now) }
     {
-        self.stations.iter().filter(|s| s.at.beats(at)).count()
+        self.stations[..self.len]
+            .iter()
+            .filter(|s| s.at.beats(at))
+            .count()
     }
 
     // Fewer than k of the listed stations beat the measures. It looks no further than the k-th that does. Every entry is
@@ -44,7 +53,7 @@ impl Listed {
         ensures { result ≡ nat_lt (count (λ s. beats s.at «at») (listing self.now)) k }
     {
         let mut left = k;
-        for station in self.stations.iter() {
+        for station in &self.stations[..self.len] {
             if station.at.beats(at) {
                 if left <= 1 {
                     return false;

@@ -1,5 +1,5 @@
 // The entries of a page are put to what waits.
-ghost use Rattle.std.specs.Prelude.{◌+◌, ◌≤◌, [], ◌∷◌, length};
+ghost use Rattle.std.specs.Prelude.{◌+◌, ◌≤◌, [], ◌∷◌, length, take};
 ghost use Rattle.waiting.specs.Held.{held, listing, Fills};
 ghost use Rattle.waiting.specs.Asking.{bands_of};
 
@@ -34,10 +34,10 @@ impl Queue {
         listed: &Listed,
         page: &Page,
     ) -> Result<(), Full>
-        ensures fills { Fills 1024 (bands_of R.score query.now) (listing listed.now) page.now.entries.items (held self.old) result (held self.new) }
+        ensures fills { Fills 1024 (bands_of R.score query.now) (listing listed.now) (take page.now.len page.now.entries) (held self.old) result (held self.new) }
         ensures few { length (held self.new) ≤ length (held self.old) + 12 }
     {
-        for entry in page.entries.iter() {
+        for entry in &page.entries[..page.len] {
             self.admit(query, listed, *entry)?;
         }
         Ok(())

@@ -2,16 +2,16 @@
 ghost use Rattle.std.specs.Prelude.{◌≡◌, []};
 ghost use Rattle.waiting.specs.Held.{held, Puts, Takes};
 
-use crate::waiting::{Full, Queue, Waiting};
-use arrayvec::ArrayVec;
+use crate::waiting::{Full, MOST_WAITING, Queue, Waiting};
 
 impl Queue {
-    // Nothing waits.
+    // Nothing waits. What fills the places does not count.
     pub fn new() -> Self
         ensures { held result ≡ [] }
     {
         Queue {
-            items: ArrayVec::new(),
+            items: [Waiting::default(); MOST_WAITING],
+            used: 0,
         }
     }
 
@@ -19,17 +19,21 @@ impl Queue {
     pub fn push(&mut self, item: Waiting) -> Result<(), Full>
         ensures { Puts 1024 (held self.old) item result (held self.new) }
     {
-        self.items.try_push(item).map_err(|_| Full)?;
-        heaps::push(&mut self.items);
-        Ok(())
+        match heaps::push(&mut self.items, self.used, item) {
+            Some(used) => {
+                self.used = used;
+                Ok(())
+            }
+            None => Err(Full),
+        }
     }
 
     // Takes the entry with the least key.
     pub fn pop(&mut self) -> Option<Waiting>
         ensures { Takes (held self.old) result (held self.new) }
     {
-        let first = heaps::pop(&mut self.items)?;
-        self.items.pop();
+        let first = heaps::pop(&mut self.items, self.used)?;
+        self.used -= 1;
         Some(first)
     }
 }

@@ -1,7 +1,5 @@
-ghost use Rattle.std.specs.Prelude.{◌≡◌, ◌≤◌};
-ghost use Rattle.arrayvec.specs.ArrayVec.{array_vec_len};
+ghost use Rattle.std.specs.Prelude.{◌≡◌, ◌≤◌, length};
 
-use arrayvec::ArrayVec;
 use books::Entry;
 use stations::Key;
 
@@ -21,9 +19,12 @@ pub struct Waiting {
     pub entry: Entry,
 }
 
-// The entries that wait, in a heap.
+// The entries that wait: a heap in the first `used` places. A count beside an array: so a start or a stop drops them at once,
+// where a vector of fixed capacity blanks every place that it clears, and each taken from the front.
 #[derive(Drop)]
 pub struct Queue {
-    pub items: ArrayVec<Waiting, MOST_WAITING>,
-    ghost few: { array_vec_len items ≤ 1024 },
+    pub items: [Waiting; MOST_WAITING],
+    pub used: usize,
+    ghost few: { used ≤ 1024 },
+    ghost sized: { length items ≡ 1024 },
 }

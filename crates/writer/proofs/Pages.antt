@@ -31,8 +31,8 @@ seen p (node l cs) r alive g = g
 pub read-seen : (b : Book) (n p : ℕ) (r : Result Page Fault) → p < n → IsLive (slot b p) → Reads b n p r → Seen (slot b p) r
 read-seen b n p r below alive h = seen p (slot b p) r alive (subst (λ t. MatchBool t (Gives p (slot b p) r) (r ≡ Err (fault PageNumber p 0))) (lt-ltb p n below) h)
 
-pub shown-bytes : (s : Slot) (page : Page) → Shows s page → page_with page.level page.entries.items ≡ slot_bytes s
-shown-bytes s page h = ap (λ l. page_with l page.entries.items) h.levels ∙ ap (page_with (level s)) h.shown
+pub shown-bytes : (s : Slot) (page : Page) → Shows s page → page_with page.level (take page.len page.entries) ≡ slot_bytes s
+shown-bytes s page h = ap (λ l. page_with l (take page.len page.entries)) h.levels ∙ ap (page_with (level s)) h.shown
 
 module _ (b : Book) (p : ℕ) (below : p < length b) where
   bytes-more : book_bytes (take (p + 1) b) ≡ book_bytes (take p b) ++ slot_bytes (slot b p)

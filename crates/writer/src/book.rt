@@ -8,6 +8,7 @@ ghost use Rattle.writer.specs.Writing.{Writes};
 use crate::bytes::encode;
 use crate::keys::CodeKey;
 use crate::order::sort_by_code;
+use arrayvec::ArrayVec;
 use rolls::Roll;
 use sources::PageSource;
 use stations::{Code, Fault, Station};
@@ -50,7 +51,8 @@ pub fn write_book(row: &[Station], work: &mut [CodeKey], book: &mut [u8]) -> Res
     if work.len() < row.len() || book.len() < PAGE * pages {
         return Err(Code::ShortBuffer.into());
     }
-    let sorted = sort_by_code(row, &mut work[..row.len()]);
+    let mut sorted = ArrayVec::new();
+    sort_by_code(row, &mut work[..row.len()], &mut sorted);
     write_pages(sorted.as_slice(), &mut book[..PAGE * pages])?;
     Ok(PAGE * pages)
 }

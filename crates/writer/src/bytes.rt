@@ -1,5 +1,5 @@
 // Stations, named pages and pages in bytes, high byte first.
-ghost use Rattle.std.specs.Prelude.{◌≡◌, ◌+◌, ◌≤◌, ◌++◌, length};
+ghost use Rattle.std.specs.Prelude.{◌≡◌, ◌+◌, ◌≤◌, ◌++◌, length, take};
 ghost use Rattle.arrayvec.specs.ArrayVec.{array_vec_len};
 ghost use Rattle.writer.specs.Bytes.{measures_bytes, station_bytes, child_bytes, entry_bytes, filled, page_with};
 
@@ -65,13 +65,13 @@ fn filled(bytes: &[u8]) -> [u8; PAGE]
 
 // The page in bytes: its level, how many entries it has, six zeros, the entries, and zeros.
 pub(crate) fn encode(page: &Page) -> [u8; PAGE]
-    ensures { result ≡ page_with page.now.level page.now.entries.items }
+    ensures { result ≡ page_with page.now.level (take page.now.len page.now.entries) }
 {
     let mut bytes = ArrayVec::new();
     bytes
-        .try_extend_from_slice(&[page.level, page.entries.len() as u8, 0, 0, 0, 0, 0, 0])
+        .try_extend_from_slice(&[page.level, page.len as u8, 0, 0, 0, 0, 0, 0])
         .unwrap();
-    for entry in page.entries.as_slice() {
+    for entry in &page.entries[..page.len] {
         put_entry(&mut bytes, *entry);
     }
     filled(bytes.as_slice())

@@ -1,4 +1,4 @@
-use Rattle.std.proofs.Common.{◌≤◌, refl, subst, arith, rules}
+use Rattle.std.proofs.Common.{◌≤◌, subst, arith, rules}
 use Rattle.rankings.specs.Scores.{ranker_score}
 use Rattle.printing.specs.Printed.{listing, Printed}
 use Rattle.scans.proofs.Listing.{answer-short}
@@ -14,4 +14,4 @@ slice_bounds-print_listing-end c =
     search rules
 
 pub returns : goal.returns
-returns c = subst (λ found. Printed (listing (ranker_score c.args.log.now.ranking) found) c.args.print.now c.print_listing.new.out c.print_listing.result) c.in_ok-n.ensures.1 (c.print_listing.ensures.complete refl)
+returns c = subst (λ found. Printed (listing (ranker_score c.args.log.now.ranking) found) c.args.print.now c.print_listing.new.out c.print_listing.result) c.in_ok-n.ensures.1 c.print_listing.ensures

@@ -1,22 +1,35 @@
-use Rattle.std.proofs.Common.{◌≡◌, eqb, Some, None, sym, ◌∙◌, rules}
-use borrow.Author.Tests.{tests}
-use Rattle.std.specs.List.{position}
-use Rattle.std.proofs.lemmas.Iterator.{YieldsList-from_slice}
-use Rattle.std.proofs.lemmas.Iterator.Search.{position_from_yields_List}
-use Rattle.logs.specs.Pieces.{line_end}
-use Rattle.logs.proofs.Cuts.{line_none, line_at}
+use Rattle.std.proofs.Common.{◌≡◌, ℕ, ◌+◌, ◌-◌, length, take, drop, sym, subst, arith}
+use Rattle.logs.specs.Pieces.{fields_of}
+use Rattle.logs.specs.Tokens.{Reads}
+use Rattle.logs.specs.Lines.{Found}
+use Rattle.logs.proofs.Scans.{scan_none, scan-field, scan-comma, scan-end, scan_past}
 use Rattle.logs.proofs.line.split_line.Goals as goal
 
-pub returns-in_err-len : goal.returns-in_err-len
-returns-in_err-len c =
+pub loop-token-init : goal.loop-token-init
+loop-token-init c = scan_none c.args.text.now
+
+pub loop-token-smaller-in-Field : goal.loop-token-smaller-in-Field
+loop-token-smaller-in-Field c =
+    let reads = subst (Reads c.args.text.now c.loop-token.«at») c.in-Field.is c.in-Some.ensures in
+    let on = scan-field c.args.text.now c.loop-token.«at» c.loop-token.commas c.in-Field.bytes.now c.loop-token.invariant reads.1 in
+    omega (arith, reads.2, on.within)
+
+pub loop-token-preserved-in-Field : goal.loop-token-preserved-in-Field
+loop-token-preserved-in-Field c =
+    let reads = subst (Reads c.args.text.now c.loop-token.«at») c.in-Field.is c.in-Some.ensures in
+    scan-field c.args.text.now c.loop-token.«at» c.loop-token.commas c.in-Field.bytes.now c.loop-token.invariant reads.1
+
+pub loop-token-preserved : goal.loop-token-preserved
+loop-token-preserved c =
+    let reads = subst (Reads c.args.text.now c.loop-token.«at») c.in-Comma.is c.in-Some.ensures in
+    scan-comma c.args.text.now c.loop-token.«at» c.loop-token.commas c.loop-token.invariant reads.1 reads.2
+
+pub returns-in-LineEnd : goal.returns-in-LineEnd
+returns-in-LineEnd c =
     let text = c.args.text.now in
-    let is : None ≡ position (λ b. eqb b line_end) text =
-    sym (c.in_err-len.was) ∙ position_from_yields_List {s = c.iter.result} (λ b. eqb b line_end) c.position.new.self _ c.position.result c.position.ensures.ran (YieldsList-from_slice text c.iter.ensures.rest) (λ x b q k. search (rules, tests)) in
-    rw c.from_residual.ensures (line_none text (sym is))
+    let reads = subst (Reads text c.loop-token.«at») c.in-LineEnd.is c.in-Some.ensures in
+    let found = scan-end text c.loop-token.«at» c.loop-token.commas c.loop-token.invariant reads.1 reads.2 in
+    subst (λ (end : ℕ). Found text (take end text) (take (length text - (end + 1)) (drop (end + 1) text)) × (c.loop-token.commas + 1 ≡ length (fields_of (take end text)))) (sym reads.0) found
 
 pub returns : goal.returns
-returns c =
-    let text = c.args.text.now in
-    let is : Some c.in_ok-len.len ≡ position (λ b. eqb b line_end) text =
-    sym (c.in_ok-len.was) ∙ position_from_yields_List {s = c.iter.result} (λ b. eqb b line_end) c.position.new.self _ c.position.result c.position.ensures.ran (YieldsList-from_slice text c.iter.ensures.rest) (λ x b q k. search (rules, tests)) in
-    line_at text c.in_ok-len.len (sym is)
+returns c = scan_past c.args.text.now c.loop-token.«at» c.loop-token.commas c.loop-token.invariant c.in_default.ensures

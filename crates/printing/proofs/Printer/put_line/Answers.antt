@@ -1,5 +1,5 @@
 use Rattle.std.proofs.Common.{refl, ap, ◌∙◌, arith}
-use Rattle.printing.proofs.Lines.{wrote_more, part_none, part-all, part_room, part_more}
+use Rattle.printing.proofs.Lines.{part_none, part-all, part_room, part_more}
 use Rattle.printing.proofs.Printer.put_line.Goals as goal
 
 pub loop-n-init : goal.loop-n-init
@@ -9,10 +9,10 @@ loop-n-init c = record {
 }
 
 pub put-requires : goal.put-requires
-put-requires c = omega (arith, part_room c.loop-n.invariant.part c.next.new.self.iter.rest.now c.in-Some.n.now c.in-Some.ensures.steps c.args.word.now c.requires)
+put-requires c = omega (arith, part_room c.loop-n.invariant.part c.next.new.self.iter.rest.now c.in-Some.n.now c.in-Some.ensures.steps c.requires)
 
 pub write_digits-self-requires : goal.write_digits-self-requires
-write_digits-self-requires c = (omega (arith, part_room c.loop-n.invariant.part c.next.new.self.iter.rest.now c.in-Some.n.now c.in-Some.ensures.steps c.args.word.now c.requires, c.put.ensures.wrote.ends), c.put.new.self.within)
+write_digits-self-requires c = (omega (arith, part_room c.loop-n.invariant.part c.next.new.self.iter.rest.now c.in-Some.n.now c.in-Some.ensures.steps c.requires, c.put.ensures.wrote.ends), c.put.new.self.within)
 
 pub loop-n-preserved : goal.loop-n-preserved
 loop-n-preserved c = record {
@@ -21,4 +21,4 @@ loop-n-preserved c = record {
 }
 
 pub returns-clause-wrote : goal.returns-clause-wrote
-returns-clause-wrote c = wrote_more (part-all c.loop-n.invariant.part c.in-None.ensures.steps.0) c.put-2.ensures.wrote
+returns-clause-wrote c = part-all c.loop-n.invariant.part c.in-None.ensures.steps.0

@@ -1,12 +1,11 @@
-use Rattle.std.proofs.Common.{◌≡◌, map, take}
-use Rattle.arrayvec.specs.ArrayVec.{array_vec_len}
+use Rattle.std.proofs.Common.{◌≡◌, map, length, take}
 use Rattle.books.specs.declared.Entry.TheVariants as entry
 use Rattle.stored.specs.Layout.{stations_of, children_of}
 use Rattle.stored.proofs.showing.page_at.Given as goal
 
--- the entries so far, in order, and how many they are
-abbrev pub invariant-loop-bytes : goal.invariant-loop-bytes
-invariant-loop-bytes l = (l.shown.items ≡ map entry.Station (stations_of (take l.bytes-index l.bytes-items))) × (array_vec_len l.shown ≡ l.bytes-index)
+-- the entries so far stand in the first places
+abbrev pub invariant-loop-place : goal.invariant-loop-place
+invariant-loop-place l = (length l.shown ≡ 12) × (take l.place l.shown ≡ map entry.Station (stations_of (take l.place l.bytes-items)))
 
-abbrev pub invariant-loop-bytes-else-level-eq0 : goal.invariant-loop-bytes-else-level-eq0
-invariant-loop-bytes-else-level-eq0 l = (l.shown.items ≡ map entry.Page (children_of (take l.bytes-index l.bytes-items))) × (array_vec_len l.shown ≡ l.bytes-index)
+abbrev pub invariant-loop-place-else-level-eq0 : goal.invariant-loop-place-else-level-eq0
+invariant-loop-place-else-level-eq0 l = (length l.shown ≡ 12) × (take l.place l.shown ≡ map entry.Page (children_of (take l.place l.bytes-items)))

@@ -36,8 +36,8 @@ write_pages-requires c =
     let counted = c.in_ok-pages.ensures in
     let many = counted.1 in
     let sorted = c.as_slice.result.now in
-    let order : sorted ≡ code_order row = c.as_slice.ensures.value ∙ c.sort_by_code-sorted.ensures.order in
-    let fine = storable row counted.0 c.sort_by_code-sorted.ensures.numbers c.sort_by_code-sorted.ensures.measures in
+    let order : sorted ≡ code_order row = c.as_slice.ensures.value ∙ c.sort_by_code.ensures.order in
+    let fine = storable row counted.0 c.sort_by_code.ensures.numbers c.sort_by_code.ensures.measures in
     let same = order-pages row sorted order in
     let cut = length-take-le (256 * c.in_ok-pages.pages) c.args.book.now (omega arith) in
     record { fine = order-fine row sorted fine order; places = omega arith }
@@ -48,11 +48,11 @@ returns c =
     let counted = c.in_ok-pages.ensures in
     let many = counted.1 in
     let sorted = c.as_slice.result.now in
-    let order : sorted ≡ code_order row = c.as_slice.ensures.value ∙ c.sort_by_code-sorted.ensures.order in
-    let fine = storable row counted.0 c.sort_by_code-sorted.ensures.numbers c.sort_by_code-sorted.ensures.measures in
+    let order : sorted ≡ code_order row = c.as_slice.ensures.value ∙ c.sort_by_code.ensures.order in
+    let fine = storable row counted.0 c.sort_by_code.ensures.numbers c.sort_by_code.ensures.measures in
     let places : length row ≤ length c.args.work.now = c.if-work-row.false in
     let cut = length-take-le (256 * c.in_ok-pages.pages) c.args.book.now (omega arith) in
-    let keys = c.sort_by_code-sorted.new.keys in
+    let keys = c.sort_by_code.new.keys in
     let kept = drop_at keys (drop (length row) c.args.work.now) (length row) (let n = length-take-le (length row) c.args.work.now places in omega arith) in
     let bytes : 256 * length (roll_book row) ≤ length c.args.book.now = omega arith in (
       none-refused row (length c.args.work.now) (length c.args.book.now) counted.0 places bytes,

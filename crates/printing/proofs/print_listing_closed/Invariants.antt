@@ -1,7 +1,7 @@
 use Rattle.std.proofs.Common.{◌≡◌}
 use Rattle.printing.specs.Printed.{closing_line}
 use Rattle.printing.proofs.Lines.{Rows}
-use Rattle.printing.proofs.print_listing.Given as goal
+use Rattle.printing.proofs.print_listing_closed.Given as goal
 
 abbrev pub invariant-loop-s : goal.invariant-loop-s
 invariant-loop-s g l = record {

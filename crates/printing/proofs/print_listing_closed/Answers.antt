@@ -1,7 +1,7 @@
 use Rattle.std.proofs.Common.{ap, ◌∙◌, arith}
 use Rattle.printing.specs.Printed.{numbered, closing_line}
 use Rattle.printing.proofs.Lines.{closing_room, rows_room, rows_more}
-use Rattle.printing.proofs.print_listing.Goals as goal
+use Rattle.printing.proofs.print_listing_closed.Goals as goal
 
 pub put_closing-requires : goal.put_closing-requires
 put_closing-requires g c = let some = c.in-Some.ensures in omega (arith, some.0, closing_room (g.R.Ranking.score c.args.ranking.now) (closing_line c.args.closing) c.args.list.now)
